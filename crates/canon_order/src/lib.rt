@@ -1,0 +1,76 @@
+//! The canonical order of expressions.
+#![tactic(auto)]
+
+ghost use Rattle.std.specs.Prelude.{◌≡◌, length, OnOk, OnErr};
+ghost use Rattle.std.specs.List.Sorted.{IsPermutation, IsSortedBy};
+ghost use Rattle.std.specs.Cmp.{IsTotalOrder};
+ghost use Rattle.expr_tree.specs.Order.{tree_cmp, trees_cmp, comes_before};
+ghost use Rattle.expr_tree.specs.Tree.{Tree, trees};
+ghost use Rattle.std.specs.declared.cmp.Ordering.TheVariants.{Equal};
+
+mod ordered;
+
+use expr_tree::{Expr, Exprs, Node};
+use item_list::Items;
+pub use ordered::Ordered;
+use std::alloc::{AllocError, Global};
+use std::cmp::Ordering;
+use std::mem;
+
+#[cycle(order)]
+#[tactic(auto, using(crate::proofs::Steps::order_steps))]
+pub fn compare(a: &Expr, b: &Expr) -> Ordering
+    ensures { result ≡ tree_cmp a.now b.now }
+{
+    match (a.node(), b.node()) {
+        (Node::Int(x), Node::Int(y)) => x.cmp(y),
+        (Node::Int(_), _) => Ordering::Less,
+        (Node::Str(_), Node::Int(_)) => Ordering::Greater,
+        (Node::Str(x), Node::Str(y)) => x.as_str().cmp(y.as_str()),
+        (Node::Str(_), _) => Ordering::Less,
+        (Node::Symbol(x), Node::Symbol(y)) => x.cmp(y),
+        (Node::Symbol(_), Node::Normal(_, _)) => Ordering::Less,
+        (Node::Symbol(_), _) => Ordering::Greater,
+        (Node::Normal(f, xs), Node::Normal(g, ys)) => match xs.len().cmp(&ys.len()) {
+            Ordering::Equal => match compare(f, g) {
+                Ordering::Equal => compare_items(xs.as_slice(), ys.as_slice()),
+                by_head => by_head,
+            },
+            by_count => by_count,
+        },
+        (Node::Normal(_, _), _) => Ordering::Greater,
+    }
+}
+
+#[cycle(order)]
+#[tactic(auto, using(crate::proofs::Steps::order_steps))]
+fn compare_items(xs: &[Expr], ys: &[Expr]) -> Ordering
+    requires { length xs.now ≡ length ys.now }
+    ensures { result ≡ trees_cmp (trees xs.now) (trees ys.now) }
+{
+    for (i, x) in xs.iter().enumerate() {
+        match compare(x, &ys[i]) {
+            Ordering::Equal => {}
+            by_item => return by_item,
+        }
+    }
+    Ordering::Equal
+}
+
+/// The canonical order is total, and only an expression itself stands beside it.
+pub fn order_is_total()
+    ensures total { IsTotalOrder tree_cmp }
+    ensures exact { (a b : Tree) → tree_cmp a b ≡ Equal → a ≡ b }
+{}
+
+/// Sorts the elements. An `Err` leaves them as they were.
+pub fn put_in_order(alloc: Global, items: &mut Exprs) -> Result<(), AllocError>
+    ensures sorted { OnOk result (IsSortedBy comes_before items.new) }
+    ensures same { IsPermutation items.old items.new }
+    ensures err { OnErr result (items.new ≡ items.old) }
+{
+    let mut sorting = mem::replace(items, Items::new(alloc)).into_vec();
+    let done = sorting.sort_by(|a, b| compare(a, b));
+    *items = Items::from_vec(sorting);
+    done
+}

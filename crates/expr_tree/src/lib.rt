@@ -1,0 +1,18 @@
+//! Expressions: integers, strings, symbols, and heads with elements.
+#![tactic(auto)]
+
+mod attrs;
+mod built;
+mod expr;
+mod limits;
+mod lists;
+mod sym;
+mod text;
+
+pub use attrs::Attrs;
+pub use built::Built;
+pub use expr::{Expr, Exprs, MAX_DEPTH, MAX_SIZE, Node, copy_items, equality_is_exact, may_cross};
+pub use limits::{Limits, Stop};
+pub use lists::{Ids, Syms, Texts};
+pub use sym::Sym;
+pub use text::Text;

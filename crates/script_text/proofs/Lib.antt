@@ -1,0 +1,6 @@
+mod Again
+mod Unique
+mod Refused
+mod Spelled
+mod Endings
+mod Coding

@@ -1,0 +1,16 @@
+-- What a row of the built-in table makes of its items alone: nothing, an expression, or a number out of range.
+use Rattle.std.specs.Prelude.{ℤ, pos, negsuc, ◌^◌, Bool, true, false, ltb, List, [], ◌∷◌}
+pub use Rattle.expr_tree.specs.Limits.{in_range}
+use Rattle.semantics.specs.Tree.{Tree, integer}
+
+pub data Worked : Type 0 where
+  Stays : Worked
+  Gives : Tree → Worked
+  TooWide : Worked
+
+abbrev pub gives_int : ℤ → Worked
+gives_int n = elim (in_range n) [ true ↦ Gives (integer n) | false ↦ TooWide ]
+
+abbrev pub all_in_range : List ℤ → Bool
+all_in_range [] = true
+all_in_range (n ∷ ns) = elim (in_range n) [ true ↦ all_in_range ns | false ↦ false ]
