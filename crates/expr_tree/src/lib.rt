@@ -2,6 +2,7 @@
 #![tactic(auto)]
 
 mod attrs;
+mod binders;
 mod built;
 mod expr;
 mod limits;
@@ -10,6 +11,7 @@ mod sym;
 mod text;
 
 pub use attrs::Attrs;
+pub use binders::Binders;
 pub use built::Built;
 pub use expr::{Expr, Exprs, MAX_DEPTH, MAX_SIZE, Node, copy_items, equality_is_exact, may_cross};
 pub use limits::{Limits, Stop};
