@@ -9,6 +9,8 @@ mod count;
 mod lookup;
 mod place;
 mod scope;
+#[cfg(test)]
+mod tests;
 
 use expr_tree::{Binders, Built, Expr, Exprs, MAX_SIZE, Sym};
 use item_list::Items;

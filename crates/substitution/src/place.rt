@@ -106,15 +106,7 @@ fn put_all(
         if let Some(new) = put(alloc, binders, bindings, hidden, item)? {
             let mut made = copies_before(alloc, items, i)?;
             made.push(new)?;
-            return Ok(Some(put_rest(
-                alloc,
-                binders,
-                bindings,
-                hidden,
-                made,
-                items,
-                i + 1,
-            )?));
+            return Ok(Some(put_rest(alloc, binders, bindings, hidden, made, items, i + 1)?));
         }
     }
     Ok(None)
