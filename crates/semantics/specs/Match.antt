@@ -8,7 +8,8 @@ use Rattle.expr_tree.specs.Tree.{Tree, integer, string, symbol, normal, Trees, n
 use Rattle.expr_tree.specs.Order.{same}
 use Rattle.semantics.specs.Builtin.{Builtin}
 use Rattle.semantics.specs.Names.{Names, is_name, head_of}
-use Rattle.semantics.specs.Binding.{Binding, value_of, put_in_place}
+use Rattle.expr_tree.specs.Substitution.{Binding, value_of}
+use Rattle.semantics.specs.InPlace.{put_in_place}
 
 pub data Guard : Type 0 where
   Test : Tree → Tree → Guard

@@ -4,7 +4,7 @@
 --     fill_slots            an expression with the arguments of a pure function put in for its slots
 use Rattle.std.specs.Prelude.{ℕ, zero, suc, pos, List, [], ◌∷◌, length, drop, Bool, true, false, ◌||◌, ltb, Option, Some, None}
 use Rattle.expr_tree.specs.Substitution as substitution
-pub use Rattle.expr_tree.specs.Substitution.{Binding, value_of, among}
+use Rattle.expr_tree.specs.Substitution.{Binding}
 use Rattle.expr_tree.specs.declared.binders.Binders.{Binders}
 use Rattle.expr_tree.specs.Tree.{Tree, integer, string, symbol, normal, Trees, nil, cons}
 use Rattle.semantics.specs.Builtin.{Builtin}
