@@ -6,7 +6,9 @@ use Rattle.std.specs.declared.cmp.Ordering.TheVariants.{Equal}
 use Rattle.std.specs.Ordering.{is_eq, nat_cmp, ordering_then}
 use Rattle.std.specs.Cmp.{nat_cmp_is}
 use Rattle.expr_tree.proofs.Same.{tree_eq-refl, symbol_eq-Decides}
-use Rattle.semantics.specs.Tree.{Sym, Tree, text_cmp, same, same_symbol}
+use Rattle.expr_tree.specs.declared.sym.Sym.{Sym}
+use Rattle.expr_tree.specs.Tree.{Tree}
+use Rattle.expr_tree.specs.Order.{text_cmp, same, same_symbol}
 use Rattle.semantics.specs.Program.{Request, Access, Count, Print, Outside, Call, Sends, Enter, Leave}
 use Rattle.semantics.specs.Eval.{same_symbols, same_request, same_call}
 

@@ -1,9 +1,16 @@
 -- A rule tried on an expression, and a list of rules tried in order.
+--     told                  Flat and Orderless of the symbols that were looked at
+--     try_guards            the guards of a binding in their order, up to the first that is not True
+--     try_binding           the same as one step, where the binding has guards
+--     try_rule, try_rules   `gives` goes on with the result of the first binding, or the first rule, that applies; `otherwise` where none does
 use Rattle.std.specs.Prelude.{List, [], ◌∷◌, ◌++◌, map, true, false}
-use Rattle.semantics.specs.Tree.{Sym, Tree, same_symbol}
+use Rattle.expr_tree.specs.declared.sym.Sym.{Sym}
+use Rattle.expr_tree.specs.Tree.{Tree}
+use Rattle.expr_tree.specs.Order.{same_symbol}
 use Rattle.semantics.specs.Builtin.{Builtin}
 use Rattle.semantics.specs.Names.{Names, is_name}
-use Rattle.semantics.specs.Binding.{Binding, put_in_place}
+use Rattle.expr_tree.specs.Substitution.{Binding}
+use Rattle.semantics.specs.InPlace.{put_in_place}
 use Rattle.semantics.specs.Match.{Guard, Cond, Found, Matching, matches, heads, guard_expression}
 use Rattle.semantics.specs.Rule.{Rule, condition_of, result_of}
 use Rattle.semantics.specs.Definitions.{Definition, has}

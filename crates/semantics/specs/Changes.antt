@@ -1,8 +1,16 @@
 -- Assignment: the rows that change definitions, as programs.
+--     assign                a value or rule attached to all its symbols, or $Failed
+--     set, set_delayed, tag_set, tag_set_delayed      the six forms of assignment
+--     unset                 an own value, or all rules with a left side, taken away
+--     change                an expression made of the old value of a symbol is evaluated and becomes its new value
+--     clear, clear_all, change_attributes, protect, attributes_row      the rows on one symbol
+--     unless_item           a definition of a shared symbol that is no access is refused in an item
 use Rattle.std.specs.Prelude.{ℤ, negsuc, List, [], ◌∷◌, map, Bool, true, false, ◌&&◌, ◌||◌, not, Option, Some, None, is_some}
-use Rattle.semantics.specs.Tree.{Sym, Tree, integer, symbol, symbol_of, same_symbol}
+use Rattle.expr_tree.specs.declared.sym.Sym.{Sym}
+use Rattle.expr_tree.specs.Tree.{Tree, integer, symbol}
+use Rattle.expr_tree.specs.Order.{same_symbol}
 use Rattle.semantics.specs.Builtin.{Builtin}
-use Rattle.semantics.specs.Names.{Names, name, is_call, items_of, make, role_of}
+use Rattle.semantics.specs.Names.{Names, name, is_call, items_of, make, role_of, symbol_of}
 use Rattle.semantics.specs.Steps.{ordered}
 use Rattle.semantics.specs.Rule.{remove, has_left}
 use Rattle.semantics.specs.Definitions.{Definition, Attributes, has}
@@ -42,11 +50,16 @@ attach_all names [] left right p = p
 attach_all names (t ∷ ts) left right p =
     Look t.symbol (λ seen. Put t.symbol (attached names t.place left right seen.definition) (attach_all names ts left right p))
 
--- left = right by one of the forms, where the left side's items are evaluated first
+-- whether something would be attached to a shared symbol; a tag that does not occur attaches nothing
+abbrev pub attaches_shared : List Target → List (Sym × Seen) → Bool
+attaches_shared [] seen = false
+attaches_shared (t ∷ ts) seen = any_shared seen
+
+-- left = right by one of the forms; the left side's items are evaluated
 abbrev pub assign : Names → Form → Tree → Tree → Prog → Prog
 assign names form left right p =
     see_all (asked_symbols form (places names form left)) (λ seen.
-    unless_item names (any_shared seen) (elim (refusal names (protected_in seen) form left) [
+    unless_item names (attaches_shared (places names form left) seen) (elim (refusal names (protected_in seen) form left) [
       | None ↦ attach_all names (places names form left) left right p
       | Some why ↦ failed names
     ]))
@@ -69,7 +82,7 @@ tag_set_delayed names stay _ = stay
 
 -- the symbols that may hold something with this left side
 abbrev pub holders : Names → Tree → List Sym
-holders names left = item_symbols (items_of (inner names left)) (symbol_of left)
+holders names left = item_symbols (items_of (inner names left)) (symbol_of (inner names left))
 
 abbrev pub holds : Tree → Definition → Bool
 holds (symbol s) d = is_some d.own

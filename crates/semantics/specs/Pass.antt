@@ -1,12 +1,18 @@
--- One pass of the standard evaluation sequence, as a program. An integer and a text stay; a symbol is replaced by its own value.
+-- One pass of the standard evaluation sequence, as a program. An integer and a string stay; a symbol is replaced by its own value.
 -- A normal expression: its head is evaluated; then its elements, but for those that are held; elements Sequence[..] are spliced in;
 -- the outermost Unevaluated of each element is taken off; under Flat elements with the same head are flattened into it;
 -- under Listable it is threaded over Lists; under Orderless it is sorted; the up rules of the symbol of each element are tried;
 -- then the down rules of the head, then the head's row of the table. The first of these that gives a result ends the pass.
+--     pass                  the pass
+--     later_steps           what follows splicing
+--     up_rules, down_rules  the rules that are tried; built_in is the row
+--     left_standing         what stands where nothing gives a result
+--     symbol_pass           a symbol
 use Rattle.std.specs.Prelude.{pos, List, [], ◌∷◌, true, false, ◌&&◌, not, Option, Some, None}
-use Rattle.semantics.specs.Tree.{Sym, Tree, integer, string, symbol, normal, elements, call, symbol_of}
+use Rattle.expr_tree.specs.declared.sym.Sym.{Sym}
+use Rattle.expr_tree.specs.Tree.{Tree, integer, string, symbol, normal, elements, call}
 use Rattle.semantics.specs.Builtin.{Builtin}
-use Rattle.semantics.specs.Names.{Names, is_name, make, role_of}
+use Rattle.semantics.specs.Names.{Names, is_known, is_name, make, role_of, symbol_of}
 use Rattle.semantics.specs.Steps.{strip, has_wrapper}
 use Rattle.semantics.specs.Definitions.{Attributes, Share, Variable, Function, has}
 use Rattle.semantics.specs.Program.{Prog, Done, Look, Outer, Moded, Seen, Count}
@@ -65,19 +71,24 @@ later_steps names head a items =
           last_steps names a last (call head last) (Done (left_standing names a head items (call head last))) head
     ]
 
--- a symbol is replaced by its own value; in mode Item a shared variable is an access
-abbrev pub own_value : Sym → Seen → Prog
-own_value s seen = elim (seen.definition.own) [ None ↦ Done (symbol s) | Some v ↦ Done v ]
-
-abbrev pub symbol_pass : Names → Sym → Prog
-symbol_pass names s =
-    elim (is_name names Builtin.KernelID (symbol s)) [
+-- $KernelID and $KernelCount are rows of a symbol alone
+abbrev pub symbol_row : Names → Sym → Prog
+symbol_row names s =
+    elim (is_known names Builtin.KernelID s) [
       | true ↦ Moded (λ mode kernel. Done (integer (pos kernel)))
-      | false ↦ elim (is_name names Builtin.KernelCount (symbol s)) [
+      | false ↦ elim (is_known names Builtin.KernelCount s) [
         | true ↦ Moded (λ mode kernel. Outer Count Done)
-        | false ↦ Look s (λ seen. access_or seen.shared Variable (symbol s) (marked seen.shared (own_value s seen)))
+        | false ↦ Done (symbol s)
       ]
     ]
+
+-- a symbol is replaced by its own value, and has its row where it has none
+abbrev pub own_value : Names → Sym → Seen → Prog
+own_value names s seen = elim (seen.definition.own) [ None ↦ symbol_row names s | Some v ↦ Done v ]
+
+-- in mode Item a shared variable is an access
+abbrev pub symbol_pass : Names → Sym → Prog
+symbol_pass names s = Look s (λ seen. access_or seen.shared Variable (symbol s) (marked seen.shared (own_value names s seen)))
 
 abbrev pub pass : Names → Tree → Prog
 pass names (integer n) = Done (integer n)

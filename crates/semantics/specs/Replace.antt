@@ -1,12 +1,17 @@
 -- Replacing, and the rows that ask whether a pattern matches.
+--     rule_set              one rule or a List of rules
+--     replaced, rounds      ReplaceAll, and the rounds of ReplaceRepeated
+--     asks                  a pattern as a rule, for the rows that ask whether it matches
+--     match_q, member_q, free_q, count_row, cases      these rows
 use Rattle.std.specs.Prelude.{ℕ, zero, suc, List, [], ◌∷◌, reverse, pos, true, false, ◌||◌, Option, Some, None}
-use Rattle.semantics.specs.Tree.{Tree, integer, string, symbol, normal, Trees, nil, cons, elements, call, same}
+use Rattle.expr_tree.specs.Tree.{Tree, integer, string, symbol, normal, Trees, nil, cons, elements, call}
+use Rattle.expr_tree.specs.Order.{same}
 use Rattle.semantics.specs.Builtin.{Builtin}
 use Rattle.semantics.specs.Names.{Names, is_call, items_of, truth}
 use Rattle.semantics.specs.Rule.{Rule}
 use Rattle.semantics.specs.Attempt.{try_rules}
-use Rattle.semantics.specs.Program.{Prog, Done, Stop, Turn, Check}
-use Rattle.semantics.specs.declared.Cause.{Cause}
+use Rattle.semantics.specs.Program.{Prog, Done, Stops, Turn, Check}
+use Rattle.expr_tree.specs.declared.limits.Stop.{Stop}
 
 abbrev pub rule_in : List Tree → Option Rule
 rule_in (l ∷ r ∷ []) = Some (record { left = l; right = r })
@@ -43,24 +48,24 @@ replace_all names stay _ = stay
 
 -- rounds until one changes nothing; each is a turn, and after 4096 that all change something it stops
 abbrev pub rounds : Names → List Rule → ℕ → Tree → Prog
-rounds names rs zero e = Turn (replaced names rs e (λ f. Check f (elim (same f e) [ true ↦ Done f | false ↦ Stop Cause.Iteration ])))
+rounds names rs zero e = Turn (replaced names rs e (λ f. Check f (elim (same f e) [ true ↦ Done f | false ↦ Stops Stop.Iteration ])))
 rounds names rs (suc n) e = Turn (replaced names rs e (λ f. Check f (elim (same f e) [ true ↦ Done f | false ↦ rounds names rs n f ])))
 
 abbrev pub replace_repeated : Names → Prog → List Tree → Prog
 replace_repeated names stay (e ∷ r ∷ []) = elim (rule_set names r) [ None ↦ stay | Some rs ↦ rounds names rs 4095 e ]
 replace_repeated names stay _ = stay
 
--- p as a rule, for the rows that ask whether it matches
-abbrev pub asks : Tree → List Rule
-asks p = record { left = p; right = p } ∷ []
+-- p as a rule, for the rows that ask whether it matches; the result says nothing
+abbrev pub asks : Names → Tree → List Rule
+asks names p = record { left = p; right = truth names true } ∷ []
 
 abbrev pub match_q : Names → Prog → List Tree → Prog
-match_q names stay (e ∷ p ∷ []) = try_rules names (asks p) e (λ v. Done (truth names true)) (Done (truth names false))
+match_q names stay (e ∷ p ∷ []) = try_rules names (asks names p) e (λ v. Done (truth names true)) (Done (truth names false))
 match_q names stay _ = stay
 
 abbrev pub member : Names → Tree → List Tree → Prog
 member names p [] = Done (truth names false)
-member names p (e ∷ es) = try_rules names (asks p) e (λ v. Done (truth names true)) (member names p es)
+member names p (e ∷ es) = try_rules names (asks names p) e (λ v. Done (truth names true)) (member names p es)
 
 abbrev pub member_q : Names → Prog → List Tree → Prog
 member_q names stay (normal h es ∷ p ∷ []) = member names p (elements es)
@@ -77,7 +82,7 @@ case_rule names p = elim (rule_of names p) [ None ↦ [] | Some r ↦ r ∷ [] ]
 -- h of the elements that match
 abbrev pub matching : Names → Tree → Tree → List Tree → List Tree → Prog
 matching names h p [] done = Done (call h (reverse done))
-matching names h p (e ∷ es) done = try_rules names (asks p) e (λ v. matching names h p es (e ∷ done)) (matching names h p es done)
+matching names h p (e ∷ es) done = try_rules names (asks names p) e (λ v. matching names h p es (e ∷ done)) (matching names h p es done)
 
 -- the head of the list is kept
 abbrev pub cases : Names → Prog → List Tree → Prog
@@ -88,7 +93,7 @@ cases names stay _ = stay
 -- how many elements match
 abbrev pub count_of : Names → Tree → List Tree → ℕ → Prog
 count_of names p [] n = Done (integer (pos n))
-count_of names p (e ∷ es) n = try_rules names (asks p) e (λ v. count_of names p es (suc n)) (count_of names p es n)
+count_of names p (e ∷ es) n = try_rules names (asks names p) e (λ v. count_of names p es (suc n)) (count_of names p es n)
 
 abbrev pub count_row : Names → Prog → List Tree → Prog
 count_row names stay (normal h es ∷ p ∷ []) = count_of names p (elements es) 0
@@ -97,10 +102,10 @@ count_row names stay _ = stay
 -- whether no part and no head matches
 abbrev mutual
   pub free : Names → Tree → Tree → Prog → Prog
-  free names p (integer n) k = try_rules names (asks p) (integer n) (λ v. Done (truth names false)) k
-  free names p (string t) k = try_rules names (asks p) (string t) (λ v. Done (truth names false)) k
-  free names p (symbol s) k = try_rules names (asks p) (symbol s) (λ v. Done (truth names false)) k
-  free names p (normal h es) k = try_rules names (asks p) (normal h es) (λ v. Done (truth names false)) (free names p h (free_items names p es k))
+  free names p (integer n) k = try_rules names (asks names p) (integer n) (λ v. Done (truth names false)) k
+  free names p (string t) k = try_rules names (asks names p) (string t) (λ v. Done (truth names false)) k
+  free names p (symbol s) k = try_rules names (asks names p) (symbol s) (λ v. Done (truth names false)) k
+  free names p (normal h es) k = try_rules names (asks names p) (normal h es) (λ v. Done (truth names false)) (free names p h (free_items names p es k))
 
   pub free_items : Names → Tree → Trees → Prog → Prog
   free_items names p nil k = k

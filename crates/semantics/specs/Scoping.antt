@@ -1,9 +1,15 @@
 -- Module, Block and With, and the application of a Function.
+--     locals_of             the members of a list of locals: symbols and `symbol = value`
+--     ask_values            their values, evaluated outside the form, from left to right
+--     module_form, block_form, with_form      the three forms
+--     apply_function        Function[..][args]
 use Rattle.std.specs.Prelude.{ℕ, ◌==◌, List, [], ◌∷◌, ◌++◌, Bool, true, false, ◌&&◌, ◌||◌, not, Option, Some, None}
-use Rattle.semantics.specs.Tree.{Sym, Tree, symbol}
+use Rattle.expr_tree.specs.declared.sym.Sym.{Sym}
+use Rattle.expr_tree.specs.Tree.{Tree, symbol}
 use Rattle.semantics.specs.Builtin.{Builtin}
 use Rattle.semantics.specs.Names.{Names, is_call, items_of}
-use Rattle.semantics.specs.Binding.{Binding, among, put_in_place, fill_slots}
+use Rattle.expr_tree.specs.Substitution.{Binding, among}
+use Rattle.semantics.specs.InPlace.{put_in_place, fill_slots}
 use Rattle.semantics.specs.Program.{Prog, Done, Ask, Within, Look, Put, Fresh, Moded, Local}
 use Rattle.semantics.specs.Control.{failed}
 

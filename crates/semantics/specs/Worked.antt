@@ -1,7 +1,9 @@
--- What a row of the built-in table makes of its items alone: nothing, an expression, or a number out of range.
-use Rattle.std.specs.Prelude.{ℤ, pos, negsuc, ◌^◌, Bool, true, false, ltb, List, [], ◌∷◌}
-pub use Rattle.expr_tree.specs.Limits.{in_range}
-use Rattle.semantics.specs.Tree.{Tree, integer}
+-- What a row of the built-in table makes of its elements alone.
+--     Worked                nothing, an expression, or a number out of range
+--     gives_int             an integer, where it is in range
+use Rattle.std.specs.Prelude.{ℤ, Bool, true, false, List, [], ◌∷◌}
+use Rattle.expr_tree.specs.Limits.{in_range}
+use Rattle.expr_tree.specs.Tree.{Tree, integer}
 
 pub data Worked : Type 0 where
   Stays : Worked
