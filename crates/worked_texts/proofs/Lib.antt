@@ -1,0 +1,4 @@
+pub mod Sample
+mod Printing
+mod Tokens
+mod Leaves
