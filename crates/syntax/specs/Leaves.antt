@@ -1,15 +1,15 @@
 -- What the tokens of a cell stand for.
 --     unescaped            the bytes that a string token writes
---     leaf                 the expression of a number, name, blank, string or slot
+--     number_leaf ..       the expressions of a number, a string, a name, a blank and a slot
 --     Lexeme, lexemes      a token with its text, and whether it begins a line; those of a cell
-use Rattle.std.specs.Prelude.{ℕ, pos, ◌+◌, ◌-◌, ◌==◌, Bool, true, false, cond, List, [], ◌∷◌, take, drop, Option, Some, None, codes}
+use Rattle.std.specs.Prelude.{ℕ, pos, ◌+◌, ◌-◌, ◌==◌, Bool, true, false, cond, List, [], ◌∷◌, take, drop, codes}
 use Rattle.semantics.specs.Tree.{Tree, integer, string, symbol}
 use Rattle.semantics.specs.Builtin.{Builtin}
 use Rattle.semantics.specs.Names.{Names, make}
 use Rattle.script_text.specs.Bytes.{in_name, run, number_after, begins_with}
 use Rattle.script_text.specs.Spelling.{spelled}
 use Rattle.script_text.specs.Reader.{symbol_of}
-use Rattle.syntax.specs.Tokens.{Kind, Number, Name, Blank, Str, Slot, Operator, Token, token_text, lex}
+use Rattle.syntax.specs.Tokens.{Kind, Token, token_text, lex}
 
 -- what a backslash and `n`, `t` or another byte stand for
 abbrev pub unescaped_byte : Bool → Bool → ℕ → ℕ
@@ -27,6 +27,12 @@ unescaped false (c ∷ cs) = elim (c == 34) [ true ↦ [] | false ↦ elim (c ==
 abbrev pub number_or_one : List ℕ → ℕ
 number_or_one [] = 1
 number_or_one (d ∷ ds) = number_after 0 (d ∷ ds)
+
+abbrev pub number_leaf : List ℕ → Tree
+number_leaf t = integer (pos (number_after 0 t))
+
+abbrev pub string_leaf : List ℕ → Tree
+string_leaf t = string (unescaped false (drop 1 t))
 
 -- by the number of `_`
 abbrev pub blank_row : ℕ → Builtin
@@ -59,14 +65,6 @@ module _ (names : Names) (find : List ℕ → ℕ) where
         | true ↦ make names Builtin.SlotSequence (integer (pos (number_or_one (drop 2 t))) ∷ [])
         | false ↦ make names Builtin.Slot (integer (pos (number_or_one (drop 1 t))) ∷ [])
       ]
-
-  abbrev pub leaf : Kind → List ℕ → Option Tree
-  leaf Number t = Some (integer (pos (number_after 0 t)))
-  leaf Name t = Some (name_leaf t)
-  leaf Blank t = Some (blank_leaf t)
-  leaf Str t = Some (string (unescaped false (drop 1 t)))
-  leaf Slot t = Some (slot_leaf t)
-  leaf Operator t = None
 
 -- `after_line`: a line feed, in a comment or not, stands between the token before and this one
 pub record Lexeme : Type 0 where

@@ -1,2 +1,9 @@
 //! The definitions of reading and printing, and laws over them. Each function here has no code: its contract is a law.
 #![tactic(auto)]
+
+ghost use Rattle.syntax.specs.Laws.{OneReading};
+
+/// A cell has at most one reading.
+pub fn a_cell_has_one_reading()
+    ensures law { OneReading }
+{}

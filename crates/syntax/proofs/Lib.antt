@@ -1,0 +1,3 @@
+mod Table
+pub mod Unique
+mod Read
