@@ -1,6 +1,7 @@
 -- Module, Block and With, and the application of a Function.
 use Rattle.std.specs.Prelude.{ℕ, ◌==◌, List, [], ◌∷◌, ◌++◌, Bool, true, false, ◌&&◌, ◌||◌, not, Option, Some, None}
-use Rattle.semantics.specs.Tree.{Sym, Tree, symbol}
+use Rattle.expr_tree.specs.declared.sym.Sym.{Sym}
+use Rattle.expr_tree.specs.Tree.{Tree, symbol}
 use Rattle.semantics.specs.Builtin.{Builtin}
 use Rattle.semantics.specs.Names.{Names, is_call, items_of}
 use Rattle.semantics.specs.Binding.{Binding, among, put_in_place, fill_slots}
@@ -63,7 +64,7 @@ renamed m s = record { base = s.base; number = m }
 
 abbrev pub renaming : ℕ → List Local → Binding
 renaming m [] = []
-renaming m (l ∷ ls) = record { symbol = l.symbol; run = symbol (renamed m l.symbol) ∷ [] } ∷ renaming m ls
+renaming m (l ∷ ls) = (l.symbol, symbol (renamed m l.symbol) ∷ []) ∷ renaming m ls
 
 -- the locals with their new symbols
 abbrev pub with_number : ℕ → List Local → List Local
@@ -94,7 +95,7 @@ values_in [] = Some []
 values_in (l ∷ ls) =
     elim l.value [
       | None ↦ None
-      | Some v ↦ elim (values_in ls) [ None ↦ None | Some b ↦ Some (record { symbol = l.symbol; run = v ∷ [] } ∷ b) ]
+      | Some v ↦ elim (values_in ls) [ None ↦ None | Some b ↦ Some ((l.symbol, v ∷ []) ∷ b) ]
     ]
 
 abbrev pub with_form : Names → Prog → List Local → Tree → Prog
@@ -113,7 +114,7 @@ symbols_in (e ∷ es) = None
 abbrev pub paired : List Sym → List Tree → Option Binding
 paired [] args = Some []
 paired (s ∷ ss) [] = None
-paired (s ∷ ss) (e ∷ es) = elim (paired ss es) [ None ↦ None | Some b ↦ Some (record { symbol = s; run = e ∷ [] } ∷ b) ]
+paired (s ∷ ss) (e ∷ es) = elim (paired ss es) [ None ↦ None | Some b ↦ Some ((s, e ∷ []) ∷ b) ]
 
 abbrev pub parameters : Names → Tree → Option (List Sym)
 parameters names (symbol s) = Some (s ∷ [])
