@@ -5,7 +5,8 @@
 --     shown, text, input   what is shown of an expression; its text at a level; at level 2
 use Rattle.std.specs.Prelude.{ℕ, ◌==◌, leb, ltb, ◌&&◌, not, Bool, true, false, cond, ℤ, pos, negsuc, List, [], ◌∷◌, ◌++◌, map, codes, drop}
 use Rattle.std.specs.Fmt.{signed_decimal}
-use Rattle.semantics.specs.Tree.{Tree, Trees, integer, string, symbol, normal, Sym, nil, cons, count}
+use Rattle.expr_tree.specs.declared.sym.Sym.{Sym}
+use Rattle.expr_tree.specs.Tree.{Tree, Trees, integer, string, symbol, normal, nil, cons, count}
 use Rattle.script_text.specs.Bytes.{joined, each_after, begins_with}
 use Rattle.script_text.specs.Spelling.{Spelling, symbol_text}
 use Rattle.script_text.specs.Full.{quoted}

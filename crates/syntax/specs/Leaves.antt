@@ -3,7 +3,7 @@
 --     number_leaf ..       the expressions of a number, a string, a name, a blank and a slot
 --     Lexeme, lexemes      a token with its text, and whether it begins a line; those of a cell
 use Rattle.std.specs.Prelude.{ℕ, pos, ◌+◌, ◌-◌, ◌==◌, Bool, true, false, cond, List, [], ◌∷◌, take, drop, codes}
-use Rattle.semantics.specs.Tree.{Tree, integer, string, symbol}
+use Rattle.expr_tree.specs.Tree.{Tree, integer, string, symbol}
 use Rattle.semantics.specs.Builtin.{Builtin}
 use Rattle.semantics.specs.Names.{Names, make}
 use Rattle.script_text.specs.Bytes.{in_name, run, number_after, begins_with}

@@ -5,7 +5,7 @@
 --     printed, print_line  the text that Print makes of its elements, and its line
 use Rattle.std.specs.Prelude.{ℕ, true, false, List, [], ◌∷◌, ◌++◌, map, codes, Option, Some}
 use Rattle.std.specs.Fmt.{decimal}
-use Rattle.semantics.specs.Tree.{Tree, Trees, string, symbol, normal, nil, cons}
+use Rattle.expr_tree.specs.Tree.{Tree, Trees, string, symbol, normal, nil, cons}
 use Rattle.semantics.specs.Builtin.{Builtin}
 use Rattle.semantics.specs.Names.{Names, role_of, is_name}
 use Rattle.script_text.specs.Bytes.{all_joined}

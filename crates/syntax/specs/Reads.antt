@@ -5,7 +5,7 @@
 --     IsFirstBad           the place of the first lexeme that no reading continues; the end counts as one
 --     IsOffset             the syntax offset of a cell that has no reading
 use Rattle.std.specs.Prelude.{◌≡◌, ℕ, suc, ◌<◌, ◌≤◌, List, [], ◌∷◌, ◌++◌, length, take, drop, Option, Some, None}
-use Rattle.semantics.specs.Tree.{Tree}
+use Rattle.expr_tree.specs.Tree.{Tree}
 use Rattle.semantics.specs.Builtin.{Builtin}
 use Rattle.semantics.specs.Names.{Names, name}
 use Rattle.syntax.specs.Tokens.{Token, LexFault, lex, place_of_fault}

@@ -7,7 +7,7 @@
 --     shape_in             the shape of a symbol
 -- A greater level binds tighter.
 use Rattle.std.specs.Prelude.{ℕ, List as Many, [], codes, Option as Maybe, Some, None}
-use Rattle.semantics.specs.Tree.{Sym}
+use Rattle.expr_tree.specs.declared.sym.Sym.{Sym}
 use Rattle.semantics.specs.Builtin.{Builtin}
 use Rattle.semantics.specs.Names.{Names, role_of}
 

@@ -1,7 +1,7 @@
 -- What tokens stand for, computed.
 use Rattle.std.proofs.Common.{◌≡◌, refl, ℕ, ◌+◌, Bool, true, false, List, [], ◌∷◌, ◌++◌, Option, Some, None}
 use Rattle.std.specs.Prelude.{codes, map, length}
-use Rattle.semantics.specs.Tree.{Tree, string, symbol}
+use Rattle.expr_tree.specs.Tree.{Tree, string, symbol}
 use Rattle.semantics.specs.Builtin.{Builtin, rows}
 use Rattle.semantics.specs.Texts.{row_text, place_in}
 use Rattle.syntax.specs.Tokens.{Token, lex, token_text}

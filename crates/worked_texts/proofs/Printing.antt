@@ -2,7 +2,7 @@
 use Rattle.std.proofs.Common.{◌≡◌, refl, ℕ, ◌+◌, [], ◌∷◌, ◌++◌}
 use Rattle.std.specs.Prelude.{codes, length}
 use Rattle.std.specs.Fmt.{digits}
-use Rattle.semantics.specs.Tree.{Tree, string, symbol, call}
+use Rattle.expr_tree.specs.Tree.{Tree, string, symbol, call}
 use Rattle.semantics.specs.Builtin.{Builtin, rows}
 use Rattle.syntax.specs.Lines as Lines
 use Rattle.syntax.specs.Make.{script}

@@ -1,7 +1,8 @@
 -- Names and expressions for worked texts: the names of the built-in table, then others.
 use Rattle.std.proofs.Common.{ℕ, zero, suc, ◌+◌, ◌-◌, List, [], ◌∷◌, ◌++◌, Option, Some, None}
 use Rattle.std.specs.Prelude.{pos, negsuc, codes, map, length}
-use Rattle.semantics.specs.Tree.{Tree, integer, symbol, Sym}
+use Rattle.expr_tree.specs.declared.sym.Sym.{Sym}
+use Rattle.expr_tree.specs.Tree.{Tree, integer, symbol}
 use Rattle.semantics.specs.Builtin.{Builtin, row_number, rows}
 use Rattle.semantics.specs.Names.{Names, make}
 use Rattle.semantics.specs.Texts.{row_text}
