@@ -1,3 +1,3 @@
 mod Table
-pub mod Unique
+pub mod Reader
 mod Read

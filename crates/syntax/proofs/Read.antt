@@ -8,7 +8,7 @@ use Rattle.syntax.specs.Phrases.{written}
 use Rattle.syntax.specs.Grammar.{WholeOf, nesting_limit}
 use Rattle.syntax.specs.Reads.{AreRead, LexemesRead, Reads}
 use Rattle.syntax.specs.Laws.{OneReading}
-use Rattle.syntax.proofs.Unique.{complete, read_once}
+use Rattle.syntax.proofs.Reader.{complete, read_once}
 
 phrases_once : (names : Names) (find : List ℕ → ℕ) (ls : List Lexeme) (d e : Tree) → AreRead names find ls d → AreRead names find ls e → d ≡ e
 phrases_once names find ls d e p q =

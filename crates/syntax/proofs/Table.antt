@@ -2,7 +2,7 @@
 use Rattle.std.proofs.Common.{◌≡◌, ℕ, ◌<◌, ◌≤◌, Bool, true, false, Option, Some, refl, lit<, lit≤}
 use Rattle.semantics.specs.Builtin.{Builtin}
 use Rattle.syntax.specs.Signs.{Sign}
-use Rattle.syntax.specs.Operators.{Operator, Prefix, infix_row, level_of, right_of, leads_at, tags_of}
+use Rattle.syntax.specs.Operators.{Operator, Prefix, Postfix, infix_row, level_of, right_of, leads_at, trails_at, tags_of}
 use Rattle.syntax.specs.Terminals.{Word, Terminal, Start, Next, sign_start, sign_next, word_start, word_next, on_line, start_of, next_of}
 
 -- every infix operator binds its right operand tighter than a semicolon
@@ -126,6 +126,52 @@ tags_level Operator.SetDelayed row e = refl
 tags_level Operator.UpSet row e = cc
 tags_level Operator.UpSetDelayed row e = cc
 tags_level Operator.CompoundExpression row e = cc
+
+-- every level is below the edge of an operand
+pub level_low : (op : Operator) → level_of op < 100
+unfolding level_of infix_row
+level_low Operator.PatternTest = lit< tt
+level_low Operator.Calls = lit< tt
+level_low Operator.Map = lit< tt
+level_low Operator.Apply = lit< tt
+level_low Operator.Power = lit< tt
+level_low Operator.Divide = lit< tt
+level_low Operator.Times = lit< tt
+level_low Operator.Plus = lit< tt
+level_low Operator.Minus = lit< tt
+level_low Operator.Equal = lit< tt
+level_low Operator.Unequal = lit< tt
+level_low Operator.Less = lit< tt
+level_low Operator.LessEqual = lit< tt
+level_low Operator.Greater = lit< tt
+level_low Operator.GreaterEqual = lit< tt
+level_low Operator.SameQ = lit< tt
+level_low Operator.UnsameQ = lit< tt
+level_low Operator.And = lit< tt
+level_low Operator.Or = lit< tt
+level_low Operator.Alternatives = lit< tt
+level_low Operator.Pattern = lit< tt
+level_low Operator.Condition = lit< tt
+level_low Operator.Rule = lit< tt
+level_low Operator.RuleDelayed = lit< tt
+level_low Operator.ReplaceAll = lit< tt
+level_low Operator.ReplaceRepeated = lit< tt
+level_low Operator.AddTo = lit< tt
+level_low Operator.SubtractFrom = lit< tt
+level_low Operator.TimesBy = lit< tt
+level_low Operator.Into = lit< tt
+level_low Operator.Set = lit< tt
+level_low Operator.SetDelayed = lit< tt
+level_low Operator.UpSet = lit< tt
+level_low Operator.UpSetDelayed = lit< tt
+level_low Operator.CompoundExpression = lit< tt
+
+pub trails_low : (op : Postfix) → trails_at op < 100
+unfolding trails_at
+trails_low Postfix.Increment = lit< tt
+trails_low Postfix.Decrement = lit< tt
+trails_low Postfix.Function = lit< tt
+trails_low Postfix.Unset = lit< tt
 
 -- a phrase may begin so
 abbrev pub CanStart : Start → Type 0

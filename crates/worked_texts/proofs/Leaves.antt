@@ -3,27 +3,16 @@ use Rattle.std.proofs.Common.{◌≡◌, refl, ℕ, ◌+◌, Bool, true, false, 
 use Rattle.std.specs.Prelude.{codes, map, length}
 use Rattle.expr_tree.specs.Tree.{Tree, string, symbol}
 use Rattle.semantics.specs.Builtin.{Builtin, rows}
-use Rattle.semantics.specs.Texts.{row_text, place_in}
-use Rattle.syntax.specs.Tokens.{Token, lex, token_text}
-use Rattle.syntax.specs.Leaves.{leaf, Lexeme, lexemes}
-use Rattle.worked_texts.proofs.Sample.{names, others, of, x', h', int}
+use Rattle.syntax.specs.Leaves.{number_leaf, string_leaf, name_leaf, blank_leaf, slot_leaf, Lexeme, lexemes}
+use Rattle.worked_texts.proofs.Sample.{names, find, of, x', h', int}
 
-find : List ℕ → ℕ
-find = place_in (map row_text rows ++ others)
-
-abbrev each_leaf : List ℕ → List Token → List (Option Tree)
-each_leaf text [] = []
-each_leaf text (t ∷ ts) = leaf names find t.kind (token_text text t) ∷ each_leaf text ts
-
-abbrev leaves : List ℕ → List (Option Tree)
-leaves text = each_leaf text (lex text).tokens
-
-each_kind_of_leaf : leaves (codes "12 x x$3 x__h ___ # ##7 \"a\\\"\\n\\\\\" + _x")
-    ≡ Some (int 12) ∷ Some x' ∷ Some (symbol (record { base = length rows + 9; number = 3 }))
-    ∷ Some (of Builtin.Pattern (x' ∷ of Builtin.BlankSequence (h' ∷ []) ∷ []))
-    ∷ Some (of Builtin.BlankNullSequence [])
-    ∷ Some (of Builtin.Slot (int 1 ∷ [])) ∷ Some (of Builtin.SlotSequence (int 7 ∷ []))
-    ∷ Some (string (codes "a\"\n\\")) ∷ None ∷ Some (of Builtin.Blank (x' ∷ [])) ∷ []
+each_kind_of_leaf :
+    number_leaf (codes "12") ∷ name_leaf names find (codes "x") ∷ name_leaf names find (codes "x$3") ∷ blank_leaf names find (codes "x__h")
+    ∷ blank_leaf names find (codes "___") ∷ blank_leaf names find (codes "_x") ∷ slot_leaf names find (codes "#") ∷ slot_leaf names find (codes "##7")
+    ∷ string_leaf (codes "\"a\\\"\\n\\\\\"") ∷ []
+    ≡ int 12 ∷ x' ∷ symbol (record { base = length rows + 9; number = 3 }) ∷ of Builtin.Pattern (x' ∷ of Builtin.BlankSequence (h' ∷ []) ∷ [])
+    ∷ of Builtin.BlankNullSequence [] ∷ of Builtin.Blank (x' ∷ []) ∷ of Builtin.Slot (int 1 ∷ []) ∷ of Builtin.SlotSequence (int 7 ∷ [])
+    ∷ string (codes "a\"\n\\") ∷ []
 unfolding find
 each_kind_of_leaf = refl
 

@@ -1,4 +1,5 @@
-pub mod Sample
+mod Sample
 mod Printing
 mod Tokens
 mod Leaves
+mod Readings
