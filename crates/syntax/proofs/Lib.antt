@@ -1,3 +1,3 @@
 mod Table
 pub mod Reader
-mod Read
+pub mod Read
