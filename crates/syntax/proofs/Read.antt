@@ -1,6 +1,7 @@
 -- A cell has at most one reading, and one syntax offset where it has none.
-use Rattle.std.proofs.Common.{◌≡◌, ℕ, zero, suc, ◌+◌, ◌<◌, ◌≤◌, ◌⊎◌, inl, inr, ⊎_elim, Bool, true, false, ◌||◌, List, [], ◌∷◌, ◌++◌, map, take, drop, length, Option, Some, None, option_and_then, refl, sym, ap, subst, ◌∙◌, arith, append_assoc, append-nil, take_all, length-append, take-append-drop}
+use Rattle.std.proofs.Common.{◌≡◌, ℕ, zero, suc, ◌+◌, ◌<◌, ◌≤◌, ◌⊎◌, inl, inr, ⊎_elim, Bool, true, false, ◌||◌, List, [], ◌∷◌, ◌++◌, map, take, drop, length, Option, Some, None, option_and_then, refl, sym, ap, subst, ◌∙◌, arith, append_assoc, append-nil, take_all, length-append, take-append-drop, take-take}
 use Rattle.std.proofs.lemmas.List.{map-append}
+use Rattle.std.proofs.lemmas.Bool.{cases_order}
 use Rattle.std.proofs.Math.Seq.{take-append_seam}
 use Rattle.std.specs.Prelude.{codes}
 use Rattle.semantics.specs.Builtin.{Builtin}
@@ -14,7 +15,7 @@ use Rattle.syntax.specs.Terminals.{Phrase, PhraseKind, Closed, NameToken, Number
 use Rattle.syntax.specs.Phrases.{Constructs, written, same_row}
 use Rattle.syntax.specs.Grammar.{WholeOf, nesting_limit}
 use Rattle.syntax.specs.Reads.{AreRead, LexemesRead, Reads, BeginsCell, IsFirstBad, IsOffset, place_of}
-use Rattle.syntax.specs.Laws.{OneReading, ReadOrOffset}
+use Rattle.syntax.specs.Laws.{OneOffset, OneReading, ReadOrOffset}
 use Rattle.syntax.proofs.Reader.{State, Filler, fill, fills, run, step, finished, start_state, SequenceFits, complete, read_once, accepted, viable, not_viable, not_read, run_last}
 
 lexeme_of : Filler → Lexeme
@@ -183,6 +184,30 @@ module _ (names : Names) (find : List ℕ → ℕ) where
   lexemes_once : (ls : List Lexeme) (d e : Tree) → LexemesRead names find ls d → LexemesRead names find ls e → d ≡ e
   lexemes_once [] d e p q = p ∙ sym q
   lexemes_once (l ∷ ls) d e p q = phrases_once (l ∷ ls) d e p q
+
+  earlier : (ls rest : List Lexeme) (j k : ℕ) (e : Tree) → j ≤ k → LexemesRead names find (take k ls ++ rest) e → LexemesRead names find (take j ls ++ (drop j (take k ls) ++ rest)) e
+  earlier ls rest j k e h r =
+      subst (λ (us : List Lexeme). LexemesRead names find us e)
+      (ap (λ (us : List Lexeme). us ++ rest) (sym (take-append-drop j (take k ls)) ∙ ap (λ (us : List Lexeme). us ++ drop j (take k ls)) (take-take j k ls h))
+      ∙ append_assoc (take j ls) (drop j (take k ls)) rest) r
+
+  not_before : (ls : List Lexeme) (j k : ℕ) → IsFirstBad names find ls j → IsFirstBad names find ls k → j < k → ⊥
+  not_before ls j k p q h =
+      let (rest, e, r) = q.before in
+      p.bad (omega (arith, q.within)) (drop (suc j) (take k ls) ++ rest, e, earlier ls rest (suc j) k e (omega arith) r)
+
+  one_bad : (ls : List Lexeme) (j k : ℕ) → IsFirstBad names find ls j → IsFirstBad names find ls k → j ≡ k
+  one_bad ls j k p q =
+      ⊎_elim (λ (e : j ≡ k). e)
+      (λ (o : (j < k) ⊎ (k < j)). ⊎_elim (λ (h : j < k). absurd (not_before ls j k p q h)) (λ (h : k < j). absurd (not_before ls k j q p h)) o)
+      (cases_order j k)
+
+  pub offset_once : (cell : List ℕ) (j k : ℕ) → IsOffset names find cell j → IsOffset names find cell k → j ≡ k
+  offset_once cell j k p q =
+      p.here ∙ ap (λ n. place_of (length cell) (lex cell).fault (drop n (lex cell).tokens)) (one_bad (lexemes cell) p.k q.k p.first_bad q.first_bad) ∙ sym q.here
+
+pub one_offset : OneOffset
+one_offset names find cell j k p q = offset_once names find cell j k p q
 
 pub one_reading : OneReading
 one_reading names find cell d e p q = lexemes_once names find (lexemes cell) d e p.read q.read
