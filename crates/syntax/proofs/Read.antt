@@ -213,8 +213,11 @@ module _ (names : Names) (find : List ℕ → ℕ) where
   expr_at_end None = None
   expr_at_end (Some x) = Some x.expr
 
+  abbrev pub lexemes_parsed : List Lexeme → Option Tree
+  lexemes_parsed ls = option_and_then (λ s. expr_at_end (ends_as s)) (goes ls)
+
   abbrev pub parsed : List ℕ → Option Tree
-  parsed cell = option_and_then (λ s. expr_at_end (ends_as s)) (goes (lexemes cell))
+  parsed cell = lexemes_parsed (lexemes cell)
 
   ended_reads : (ls : List Lexeme) (e : Tree) (s : At) (o : Option Phrase) → goes ls ≡ Some s → ends_as s ≡ o → expr_at_end o ≡ Some e → LexemesRead names find ls e
   ended_reads ls e s None h g q = cc
@@ -226,8 +229,11 @@ module _ (names : Names) (find : List ℕ → ℕ) where
   gone_reads ls e None h q = cc
   gone_reads ls e (Some s) h q = ended_reads ls e s (ends_as s) h refl q
 
+  pub lexemes_computed : (ls : List Lexeme) (e : Tree) → lexemes_parsed ls ≡ Some e → LexemesRead names find ls e
+  lexemes_computed ls e q = gone_reads ls e (goes ls) refl q
+
   pub computed : (cell : List ℕ) (e : Tree) → (lex cell).fault ≡ None → parsed cell ≡ Some e → Reads names find cell e
-  computed cell e n q = record { no_fault = n; read = gone_reads (lexemes cell) e (goes (lexemes cell)) refl q }
+  computed cell e n q = record { no_fault = n; read = lexemes_computed (lexemes cell) e q }
 
   -- the number of lexemes gone over where the reader stops, or where the end is no end
   abbrev pub stop_at_end : ℕ → Option Phrase → Option ℕ
@@ -295,6 +301,16 @@ module _ (names : Names) (find : List ℕ → ℕ) where
   computed_offset cell k place q e =
       let s = stops_of (lexemes cell) k q in
       record { k = k; first_bad = s.bad; unread = λ x r. s.unread x r.read; here = sym e }
+
+  -- where the lexemes in front of a fault are read
+  pub fault_offset : (cell : List ℕ) (f : LexFault) (e : Tree) → (lex cell).fault ≡ Some f → LexemesRead names find (lexemes cell) e →
+      IsOffset names find cell (place_of (length cell) (lex cell).fault (drop (length (lexemes cell)) (lex cell).tokens))
+  fault_offset cell f e g r = record {
+    k = length (lexemes cell);
+    first_bad = bad_end (lexemes cell) ([], e, subst (λ (us : List Lexeme). LexemesRead names find us e) (sym (append-nil (lexemes cell))) r);
+    unread = λ x q. let n : None ≡ Some f = sym q.no_fault ∙ g in cc;
+    here = refl;
+  }
 
 pub one_offset : OneOffset
 one_offset names find cell j k p q = offset_once names find cell j k p q
