@@ -4,7 +4,8 @@ use Rattle.expr_tree.specs.declared.sym.Sym.{Sym}
 use Rattle.expr_tree.specs.Tree.{Tree, symbol}
 use Rattle.semantics.specs.Builtin.{Builtin}
 use Rattle.semantics.specs.Names.{Names, is_call, items_of}
-use Rattle.semantics.specs.Binding.{Binding, among, put_in_place, fill_slots}
+use Rattle.expr_tree.specs.Substitution.{Binding, among}
+use Rattle.semantics.specs.InPlace.{put_in_place, fill_slots}
 use Rattle.semantics.specs.Program.{Prog, Done, Ask, Within, Look, Put, Fresh, Moded, Local}
 use Rattle.semantics.specs.Control.{failed}
 
