@@ -1,0 +1,6 @@
+mod Sample
+mod Printing
+mod Tokens
+mod Leaves
+mod Readings
+mod Nesting
