@@ -1,0 +1,12 @@
+mod Tables
+mod Apart
+mod Counted
+mod Grows
+mod Kept
+mod Replayed
+mod Equal
+mod Forced
+mod Unique
+mod Steps
+mod Attempts
+mod Views
