@@ -1,12 +1,12 @@
 -- Setups, entries and cells for the worked journals.
 use Rattle.std.proofs.Common.{ℕ, zero, suc, ◌+◌, List, [], ◌∷◌, Option, Some, None}
 use Rattle.std.specs.Prelude.{pos}
-use Rattle.semantics.specs.Tree.{Tree, integer, symbol}
+use Rattle.semantics.specs.Tree.{Sym, Tree, integer, string, symbol}
 use Rattle.semantics.specs.Builtin.{Builtin, row_number, rows}
 use Rattle.semantics.specs.Names.{Names, make, name}
-use Rattle.semantics.specs.Eval.{Limits}
-use Rattle.journal.specs.Entry.{Entry, Event}
-use Rattle.journal.specs.Core.{Setup, Retry}
+use Rattle.semantics.specs.Play.{Limits}
+use Rattle.journal.specs.Entry.{Entry, Event, Wait}
+use Rattle.journal.specs.Core.{Setup, Retry, Abandon}
 use Rattle.journal.specs.Run.{Reading, Reads}
 
 abbrev pub row_at : List Builtin → ℕ → Option Builtin
@@ -68,3 +68,44 @@ wait_all e = of Builtin.WaitAll (e ∷ [])
 
 abbrev pub then : Tree → Tree → Tree
 then e f = of Builtin.CompoundExpression (e ∷ f ∷ [])
+
+-- a lost item is given up
+abbrev pub abandoning : ℕ → List (ℕ × ℕ) → Setup
+abandoning kernels plan = record (setup kernels plan) { recovery = Abandon }
+
+abbrev pub f' : Tree
+f' = sym 3
+
+abbrev pub x' : Tree
+x' = sym 7
+
+abbrev pub lock' : Sym
+lock' = record { base = 1020; number = 0 }
+
+abbrev pub failed' : Tree
+failed' = name names Builtin.Failed
+
+abbrev pub aborted' : Tree
+aborted' = name names Builtin.Aborted
+
+abbrev pub object : ℕ → Tree
+object k = of Builtin.EvaluationObject (int k ∷ [])
+
+-- CriticalSection[{lock}, e]
+abbrev pub section : Tree → Tree
+section e = of Builtin.CriticalSection (list (symbol lock' ∷ []) ∷ e ∷ [])
+
+-- Method -> t
+abbrev pub method : List ℕ → Tree
+method t = of Builtin.Rule (name names Builtin.Method ∷ string t ∷ [])
+
+-- kernel k reads x, and writes it
+abbrev pub read : ℕ → ℕ → Entry
+read k v = by k (Event.Access x' (int v))
+
+abbrev pub write : ℕ → ℕ → Entry
+write k v = by k (Event.Access (equals x' (int v)) (int v))
+
+-- one item, which the stand-in evaluates without a call
+abbrev pub alone_at : ℕ → Tree → List Entry
+alone_at id v = by 0 (Event.Submit id) ∷ by 0 (Event.Yield (Wait.All (id ∷ []))) ∷ by 0 (Event.Take id) ∷ by 0 (Event.Deliver id v) ∷ by 0 Event.Resume ∷ []

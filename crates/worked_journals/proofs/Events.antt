@@ -1,4 +1,4 @@
--- A sequence of events on a core with two kernels, as the book meets them.
+-- A sequence of events on a core with two kernels, and what may not follow it.
 use Rattle.std.proofs.Common.{◌≡◌, refl, ℕ, List, [], ◌∷◌, ◌++◌, Option, Some, None}
 use Rattle.semantics.specs.Tree.{Sym, Tree}
 use Rattle.semantics.specs.Definitions.{empty}
@@ -7,7 +7,7 @@ use Rattle.journal.specs.Closure.{bundle, symbols_of}
 use Rattle.journal.specs.Entry.{Event, Wait, Loss, Item, Handed, Posted}
 use Rattle.journal.specs.Core.{Setup, Core, start, step, replay, wait_reply}
 use Rattle.journal.specs.Spans.{sections, results}
-use Rattle.journal.proofs.Script.{setup, names, sym, int, by}
+use Rattle.worked_journals.proofs.Script.{setup, names, sym, int, by}
 
 abbrev two : Setup
 two = setup 2 []
