@@ -6,7 +6,9 @@
 --     bundle, install        the definitions on it; a kernel's definitions with a bundle put in the place of what it had there
 use Rattle.std.specs.Prelude.{◌≡◌, ℕ, zero, suc, List, [], ◌∷◌, ◌++◌, map, length, Bool, true, false, ◌&&◌, ◌||◌, not, Option, Some, None}
 use Rattle.std.specs.declared.cmp.Ordering.TheVariants.{Less, Equal, Greater}
-use Rattle.semantics.specs.Tree.{Sym, Tree, integer, string, symbol, normal, Trees, nil, cons, symbol_cmp}
+use Rattle.expr_tree.specs.declared.sym.Sym.{Sym}
+use Rattle.expr_tree.specs.Tree.{Tree, integer, string, symbol, normal, Trees, nil, cons}
+use Rattle.expr_tree.specs.Order.{symbol_cmp}
 use Rattle.semantics.specs.Builtin.{rows}
 use Rattle.semantics.specs.Names.{Names, known, role_of}
 use Rattle.semantics.specs.Binding.{among}

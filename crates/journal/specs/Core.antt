@@ -5,13 +5,16 @@
 --     replay                 a whole journal, from the start
 --     reply_to               what a wait gives at its end
 use Rattle.std.specs.Prelude.{ℕ, zero, suc, pos, List, [], ◌∷◌, ◌++◌, map, length, replicate, Bool, true, false, ◌&&◌, ◌||◌, not, ◌==◌, Option, Some, None}
-use Rattle.semantics.specs.Tree.{Sym, Tree, integer, same}
+use Rattle.expr_tree.specs.declared.sym.Sym.{Sym}
+use Rattle.expr_tree.specs.Tree.{Tree, integer}
+use Rattle.expr_tree.specs.Order.{same}
 use Rattle.semantics.specs.Builtin.{Builtin}
 use Rattle.semantics.specs.Names.{Names, name, is_name, make}
 use Rattle.semantics.specs.Binding.{among}
 use Rattle.semantics.specs.Definitions.{Definitions, empty, is_empty}
 use Rattle.semantics.specs.Program.{Mode, Request, Call}
-use Rattle.semantics.specs.Play.{Limits, Setting, End, Reply, Play, Over, Calls, whole}
+use Rattle.expr_tree.specs.declared.limits.Limits.{Limits}
+use Rattle.semantics.specs.Play.{Setting, End, Reply, Play, Over, Calls, whole}
 use Rattle.journal.specs.Table.{nth, change_at, each_from, member, is_some}
 use Rattle.journal.specs.Closure.{Bundle}
 use Rattle.journal.specs.Entry.{Text, Wait, Event, Item, Handed, Posted}

@@ -1,6 +1,7 @@
 -- What is posted: events, entries, and what the master hands in beside them.
 use Rattle.std.specs.Prelude.{ℕ, List}
-use Rattle.semantics.specs.Tree.{Sym, Tree}
+use Rattle.expr_tree.specs.declared.sym.Sym.{Sym}
+use Rattle.expr_tree.specs.Tree.{Tree}
 use Rattle.semantics.specs.Definitions.{Definitions}
 use Rattle.journal.specs.Closure.{Bundle}
 

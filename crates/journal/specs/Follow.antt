@@ -4,7 +4,9 @@
 --     kernel_run             a whole journal, seen so. It is undefined where an own entry is none that the kernel would post
 use Rattle.std.specs.Prelude.{ℕ, zero, suc, pos, List, [], ◌∷◌, ◌++◌, reverse, Bool, true, false, ◌&&◌, ◌||◌, not, ◌==◌, T, Option, Some, None}
 use Rattle.std.specs.Ordering.{is_eq}
-use Rattle.semantics.specs.Tree.{Sym, Tree, integer, same, text_cmp}
+use Rattle.expr_tree.specs.declared.sym.Sym.{Sym}
+use Rattle.expr_tree.specs.Tree.{Tree, integer}
+use Rattle.expr_tree.specs.Order.{same, text_cmp}
 use Rattle.semantics.specs.Builtin.{Builtin}
 use Rattle.semantics.specs.Names.{Names, name, make}
 use Rattle.semantics.specs.Definitions.{Definitions, empty}

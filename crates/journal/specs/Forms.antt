@@ -3,14 +3,17 @@
 --     form                   the form of an expression, at a core, with the master's definitions
 use Rattle.std.specs.Prelude.{ℕ, suc, pos, List, [], ◌∷◌, ◌++◌, map, length, ltb, Bool, true, false, ◌||◌, not, ◌==◌, Option, Some, None, codes}
 use Rattle.std.specs.Ordering.{is_eq, int_eq}
-use Rattle.semantics.specs.Tree.{Sym, Tree, integer, string, symbol, normal, Trees, nil, cons, elements, call, size, depth, text_cmp}
+use Rattle.expr_tree.specs.declared.sym.Sym.{Sym}
+use Rattle.expr_tree.specs.Tree.{Tree, integer, string, symbol, normal, Trees, nil, cons, elements, call, size, depth}
+use Rattle.expr_tree.specs.Order.{text_cmp}
 use Rattle.semantics.specs.Builtin.{Builtin}
 use Rattle.semantics.specs.Names.{Names, name, is_call, items_of, make, role_of}
 use Rattle.semantics.specs.Binding.{Binding, among, put_in_place}
 use Rattle.semantics.specs.Scoping.{symbols_in}
 use Rattle.semantics.specs.Definitions.{Definitions, Share, Variable, Function, Shared, has, shared_as, stored, definition_of}
-use Rattle.semantics.specs.declared.Cause.{Cause}
-use Rattle.semantics.specs.Play.{Limits, Reply, too_large, first_cause}
+use Rattle.expr_tree.specs.declared.limits.Stop.{Stop}
+use Rattle.expr_tree.specs.declared.limits.Limits.{Limits}
+use Rattle.semantics.specs.Play.{Reply, too_large, first_cause}
 use Rattle.semantics.specs.Control.{Values, From, Each, steps_to, inner_form}
 use Rattle.semantics.specs.Lists.{count_up}
 use Rattle.semantics.specs.Sections.{is_option, without_option, same_share}
@@ -34,7 +37,7 @@ pub data Form : Type 0 where
 
 -- ---- limits
 
-abbrev pub first_of : Option Cause → Option Cause → Option Cause
+abbrev pub first_of : Option Stop → Option Stop → Option Stop
 first_of None b = b
 first_of (Some c) b = Some c
 
@@ -47,7 +50,7 @@ any_too_deep limits [] = false
 any_too_deep limits (e ∷ es) = ltb limits.depth (depth e) || any_too_deep limits es
 
 -- why no item is made of these expressions: Size comes before Depth
-abbrev pub refusal : Limits → List Tree → Option Cause
+abbrev pub refusal : Limits → List Tree → Option Stop
 refusal limits es = first_cause (any_too_large limits es) (any_too_deep limits es)
 
 -- a value within the limits, or the stop
@@ -231,7 +234,7 @@ batches_for set c d method finish (a ∷ as') =
 
 -- the value made of all values; where a batch was given up the form stops
 abbrev pub or_size : Setup → (List Tree → Tree) → Option (List Tree) → Reply
-or_size set k None = Reply.Halted Cause.Size
+or_size set k None = Reply.Halted Stop.Size
 or_size set k (Some vs) = checked set.limits (k vs)
 
 abbrev pub mapped : Tree → List Tree → List Tree
@@ -297,7 +300,7 @@ loop_over set c d method finish body i values =
     elim (is_shared_iterator d i) [
       | true ↦ fails set d
       | false ↦ elim (ltb most_values (value_count values)) [
-        | true ↦ Answers (Reply.Halted Cause.Size) d
+        | true ↦ Answers (Reply.Halted Stop.Size) d
         | false ↦ batches_for set c d method finish (map (block_with set.names i body) (value_list values))
       ]
     ]

@@ -1,6 +1,6 @@
 -- Applications that give the same wherever they are evaluated.
 use Rattle.std.specs.Prelude.{◌≡◌, ◌≤◌, List, [], ◌∷◌, false}
-use Rattle.semantics.specs.Tree.{Tree, size, depth}
+use Rattle.expr_tree.specs.Tree.{Tree, size, depth}
 use Rattle.semantics.specs.Builtin.{Builtin}
 use Rattle.semantics.specs.Names.{Names, name}
 use Rattle.semantics.specs.Definitions.{Definitions, empty}

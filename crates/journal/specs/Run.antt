@@ -6,7 +6,9 @@
 --     legal, transcript      whether a journal is one of the script's; the lines that are written
 use Rattle.std.specs.Prelude.{ℕ, suc, pos, List, [], ◌∷◌, ◌++◌, map, length, drop, take, Bool, true, false, ◌&&◌, ◌==◌, ltb, T, Option, Some, None}
 use Rattle.std.specs.Ordering.{is_eq}
-use Rattle.semantics.specs.Tree.{Sym, Tree, integer, depth, text_cmp}
+use Rattle.expr_tree.specs.declared.sym.Sym.{Sym}
+use Rattle.expr_tree.specs.Tree.{Tree, integer, depth}
+use Rattle.expr_tree.specs.Order.{text_cmp}
 use Rattle.semantics.specs.Builtin.{Builtin}
 use Rattle.semantics.specs.Names.{Names, name, is_name}
 use Rattle.semantics.specs.Definitions.{Definitions, empty}

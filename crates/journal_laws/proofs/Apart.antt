@@ -1,7 +1,8 @@
 -- Sections that share a lock never overlap.
 use Rattle.std.proofs.Common.{◌≡◌, refl, sym, subst, ◌∙◌, ℕ, zero, suc, ◌<◌, Bool, true, false, List, [], ◌∷◌, Option, Some, None, true≢false, eqb-true, arith, inl, inr}
 use Rattle.std.specs.Prelude.{◌&&◌, not, ◌==◌, ◌⊎◌}
-use Rattle.semantics.specs.Tree.{Sym, same_symbol}
+use Rattle.expr_tree.specs.declared.sym.Sym.{Sym}
+use Rattle.expr_tree.specs.Order.{same_symbol}
 use Rattle.semantics.specs.Binding.{among}
 use Rattle.semantics.specs.Definitions.{is_empty}
 use Rattle.journal.specs.Table.{nth, change_at, is_some}

@@ -5,7 +5,9 @@ use Rattle.std.specs.declared.cmp.Ordering.TheVariants.{Less, Equal, Greater}
 use Rattle.std.specs.Ordering.{is_eq, nat_cmp, int_cmp, ordering_then}
 use Rattle.std.specs.Cmp.{ranked, int_ranks}
 use Rattle.std.specs.Ordering.{MatchOrdering}
-use Rattle.semantics.specs.Tree.{Sym, Tree, Trees, integer, string, symbol, normal, nil, cons, count, tree_cmp, trees_cmp, symbol_cmp, text_cmp, same, same_symbol}
+use Rattle.expr_tree.specs.declared.sym.Sym.{Sym}
+use Rattle.expr_tree.specs.Tree.{Tree, Trees, integer, string, symbol, normal, nil, cons, count}
+use Rattle.expr_tree.specs.Order.{tree_cmp, trees_cmp, symbol_cmp, text_cmp, same, same_symbol}
 use Rattle.semantics.specs.Eval.{same_symbols}
 use Rattle.journal.specs.Entry.{Event, Wait}
 use Rattle.journal.specs.Run.{same_ids, same_wait, is_event}

@@ -2,7 +2,7 @@
 use Rattle.std.proofs.Common.{◌≡◌, refl, sym, ap, ◌∙◌, ℕ, zero, suc, Bool, true, false, List, [], ◌∷◌, Option, Some, None, true≢false, eqb-true, arith, inl, inr}
 use Rattle.std.specs.Prelude.{◌&&◌, ◌==◌, ◌⊎◌}
 use Rattle.std.specs.Ordering.{is_eq}
-use Rattle.semantics.specs.Tree.{same, text_cmp}
+use Rattle.expr_tree.specs.Order.{same, text_cmp}
 use Rattle.semantics.specs.Definitions.{Definitions}
 use Rattle.semantics.specs.Program.{Request, Call}
 use Rattle.semantics.specs.Play.{Reply}

@@ -1,7 +1,8 @@
 -- The run uses up the journal from the front and does not look beyond what it uses: what is defined on a journal is defined, with the same end, on every longer one.
 use Rattle.std.proofs.Common.{◌≡◌, refl, ap, ◌∙◌, ℕ, suc, Bool, true, false, List, [], ◌∷◌, ◌++◌, length, Option, Some, None}
 use Rattle.std.specs.Prelude.{◌&&◌, ◌==◌, ltb, pos}
-use Rattle.semantics.specs.Tree.{Sym, Tree, integer, depth}
+use Rattle.expr_tree.specs.declared.sym.Sym.{Sym}
+use Rattle.expr_tree.specs.Tree.{Tree, integer, depth}
 use Rattle.semantics.specs.Builtin.{Builtin}
 use Rattle.semantics.specs.Names.{name}
 use Rattle.semantics.specs.Definitions.{Definitions}

@@ -1,7 +1,8 @@
 -- What one post keeps, the whole run keeps: one lemma for each function of the run, for any property of walks.
 use Rattle.std.proofs.Common.{◌≡◌, refl, sym, ap, subst, ℕ, suc, Bool, true, false, List, [], ◌∷◌, ◌++◌, length, take, Option, Some}
 use Rattle.std.specs.Prelude.{◌&&◌, ◌==◌, ltb}
-use Rattle.semantics.specs.Tree.{Sym, Tree, depth}
+use Rattle.expr_tree.specs.declared.sym.Sym.{Sym}
+use Rattle.expr_tree.specs.Tree.{Tree, depth}
 use Rattle.semantics.specs.Builtin.{Builtin}
 use Rattle.semantics.specs.Names.{name}
 use Rattle.semantics.specs.Definitions.{Definitions, empty}

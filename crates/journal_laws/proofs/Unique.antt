@@ -1,7 +1,8 @@
 -- With no kernels a script has at most one journal.
 use Rattle.std.proofs.Common.{◌≡◌, refl, sym, ap, subst, ◌∙◌, ℕ, suc, Bool, true, false, List, [], ◌∷◌, ◌++◌, length, take, append-nil, append_assoc, Option, Some, None, T, true≢false, eqb-true}
 use Rattle.std.specs.Prelude.{◌&&◌, not, ◌==◌, ltb, pos, replicate}
-use Rattle.semantics.specs.Tree.{Sym, Tree, integer, depth}
+use Rattle.expr_tree.specs.declared.sym.Sym.{Sym}
+use Rattle.expr_tree.specs.Tree.{Tree, integer, depth}
 use Rattle.semantics.specs.Builtin.{Builtin}
 use Rattle.semantics.specs.Names.{name}
 use Rattle.semantics.specs.Definitions.{Definitions, empty}

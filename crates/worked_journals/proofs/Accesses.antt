@@ -1,7 +1,7 @@
 -- Accesses of shared symbols: one after the other, a lost update, one that nobody makes, a shared function.
 use Rattle.std.proofs.Common.{◌≡◌, refl, true, false, List, [], ◌∷◌, ◌++◌, Some}
 use Rattle.std.specs.Prelude.{codes}
-use Rattle.semantics.specs.Tree.{Tree, string, call}
+use Rattle.expr_tree.specs.Tree.{Tree, string, call}
 use Rattle.semantics.specs.Builtin.{Builtin}
 use Rattle.semantics.specs.Names.{name}
 use Rattle.journal.specs.Entry.{Entry, Event, Wait}

@@ -1,6 +1,6 @@
 -- What an item takes with it, and what DistributeDefinitions adds to that.
 use Rattle.std.proofs.Common.{◌≡◌, refl, true, List, [], ◌∷◌}
-use Rattle.semantics.specs.Tree.{Tree, call}
+use Rattle.expr_tree.specs.Tree.{Tree, call}
 use Rattle.semantics.specs.Builtin.{Builtin}
 use Rattle.journal.specs.Entry.{Entry, Event, Wait}
 use Rattle.journal.specs.Run.{Reading, legal}

@@ -1,6 +1,7 @@
 -- A sequence of events on a core with two kernels, and what may not follow it.
 use Rattle.std.proofs.Common.{◌≡◌, refl, ℕ, List, [], ◌∷◌, ◌++◌, Option, Some, None}
-use Rattle.semantics.specs.Tree.{Sym, Tree}
+use Rattle.expr_tree.specs.declared.sym.Sym.{Sym}
+use Rattle.expr_tree.specs.Tree.{Tree}
 use Rattle.semantics.specs.Definitions.{empty}
 use Rattle.journal.specs.Table.{given}
 use Rattle.journal.specs.Closure.{bundle, symbols_of}

@@ -1,6 +1,6 @@
 -- Quiet applications.
 use Rattle.std.proofs.Common.{◌≡◌, refl, false, [], ◌∷◌, arith}
-use Rattle.semantics.specs.Tree.{Tree, call}
+use Rattle.expr_tree.specs.Tree.{Tree, call}
 use Rattle.semantics.specs.Builtin.{Builtin}
 use Rattle.semantics.specs.Definitions.{Definitions, empty}
 use Rattle.semantics.specs.Program.{Mode}

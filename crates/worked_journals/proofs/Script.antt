@@ -1,10 +1,11 @@
 -- Setups, entries and cells for the worked journals.
 use Rattle.std.proofs.Common.{ℕ, zero, suc, ◌+◌, List, [], ◌∷◌, Option, Some, None}
 use Rattle.std.specs.Prelude.{pos}
-use Rattle.semantics.specs.Tree.{Sym, Tree, integer, string, symbol}
+use Rattle.expr_tree.specs.declared.sym.Sym.{Sym}
+use Rattle.expr_tree.specs.Tree.{Tree, integer, string, symbol}
 use Rattle.semantics.specs.Builtin.{Builtin, row_number, rows}
 use Rattle.semantics.specs.Names.{Names, make, name}
-use Rattle.semantics.specs.Play.{Limits}
+use Rattle.expr_tree.specs.declared.limits.Limits.{Limits}
 use Rattle.journal.specs.Entry.{Entry, Event, Wait}
 use Rattle.journal.specs.Core.{Setup, Retry, Abandon}
 use Rattle.journal.specs.Run.{Reading, Reads}

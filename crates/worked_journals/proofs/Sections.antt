@@ -1,7 +1,7 @@
 -- Critical sections: two kernels, inner sections, a master that waits for a lock, a stop at Quit inside one.
 use Rattle.std.proofs.Common.{◌≡◌, refl, ℕ, true, false, List, [], ◌∷◌, ◌++◌, Some}
 use Rattle.std.specs.Prelude.{codes}
-use Rattle.semantics.specs.Tree.{Tree, string, symbol}
+use Rattle.expr_tree.specs.Tree.{Tree, string, symbol}
 use Rattle.semantics.specs.Builtin.{Builtin}
 use Rattle.semantics.specs.Names.{name}
 use Rattle.journal.specs.Entry.{Entry, Event, Wait}
