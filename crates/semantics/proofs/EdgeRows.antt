@@ -1,12 +1,14 @@
 -- Worked rows at the edges of the rules, closed by `refl`.
 use Rattle.std.proofs.Common.{◌≡◌, refl, List, [], ◌∷◌}
 use Rattle.std.specs.Prelude.{negsuc}
-use Rattle.semantics.specs.Tree.{integer, string, call}
+use Rattle.std.specs.Str.{chars}
+use Rattle.std.specs.Char.{encode_utf8}
+use Rattle.expr_tree.specs.Tree.{integer, string, call}
 use Rattle.semantics.specs.Builtin.{Builtin}
 use Rattle.semantics.specs.Names.{name}
 use Rattle.semantics.specs.Definitions.{Definitions, Function, Variable, empty}
 use Rattle.semantics.specs.Program.{Item, Access, Outside, Sends, Enter, Leave}
-use Rattle.semantics.specs.declared.Cause.{Cause}
+use Rattle.expr_tree.specs.declared.limits.Stop.{Stop}
 use Rattle.semantics.specs.Play.{Setting, Replied}
 use Rattle.semantics.specs.Eval.{Event, Outcome, Needs, eval}
 use Rattle.semantics.proofs.Script.{names, cells, value, stopped, product_limits, in_cell, a', b', c', f', h', x', y', n', i', int, plus, times, equals, delayed, blank, list, apply, minus_one, of, numbers}
@@ -65,10 +67,11 @@ eleven = refl
 -- StringLength and StringReverse by characters
 strings : cells (of Builtin.StringLength (string (195 ∷ 169 ∷ 98 ∷ []) ∷ []) ∷ of Builtin.StringReverse (string (195 ∷ 169 ∷ 98 ∷ []) ∷ []) ∷ [])
     ≡ value (int 2) ∷ value (string (98 ∷ 195 ∷ 169 ∷ [])) ∷ []
+unfolding chars encode_utf8
 strings = refl
 
 in_item : Setting
-in_item = record { names = names; mode = Item; kernel = 1; limits = product_limits }
+in_item = record { names = names; shown = λ e. []; mode = Item; kernel = 1; limits = product_limits }
 
 -- n is a shared variable, f a shared function
 sharing : Definitions
@@ -118,6 +121,6 @@ unfolding in_item entered
 nothing_left = refl
 
 -- a stop in a section is its end once Leave was replied to
-stopped_inside : (eval in_item empty (of Builtin.CriticalSection (list (b' ∷ []) ∷ of Builtin.Power (int 2 ∷ int 200 ∷ []) ∷ [])) entered).outcome ≡ stopped Cause.Range
+stopped_inside : (eval in_item empty (of Builtin.CriticalSection (list (b' ∷ []) ∷ of Builtin.Power (int 2 ∷ int 200 ∷ []) ∷ [])) entered).outcome ≡ stopped Stop.Range
 unfolding in_item entered
 stopped_inside = refl

@@ -1,11 +1,14 @@
 -- Looser limits change no evaluation that ended with a value or at Quit.
 use Rattle.std.proofs.Common.{◌≡◌, refl, sym, subst, ℕ, zero, suc, ◌≤◌, Bool, true, false, T, ltb, List, [], ◌∷◌, Option, Some, None, is_none, arith, le_trans, lt_of_lt_of_le, le_of_suc-le-suc, not-suc-le-zero, ltb-true, ltb-false, lt-ltb, le-ltb}
-use Rattle.semantics.specs.Tree.{Sym, Tree, size, depth, same}
+use Rattle.expr_tree.specs.declared.sym.Sym.{Sym}
+use Rattle.expr_tree.specs.Tree.{Tree, size, depth}
+use Rattle.expr_tree.specs.Order.{same}
 use Rattle.semantics.specs.Definitions.{Definitions}
-use Rattle.semantics.specs.Program.{Prog, Done, Stop, Leaves, Ask, Within, Section, Open, Look, Put, Fresh, Turn, Check, Outer, Moded, Call}
-use Rattle.semantics.specs.declared.Cause.{Cause}
+use Rattle.semantics.specs.Program.{Prog, Done, Stops, Quits, Ask, Within, Section, Open, Look, Put, Fresh, Turn, Check, Outer, Moded, Shown, Call}
+use Rattle.expr_tree.specs.declared.limits.Stop.{Stop}
 use Rattle.semantics.specs.Pass.{pass}
-use Rattle.semantics.specs.Play.{Limits, Setting, State, End, Value, Stopped, Quit, Closed, Starved, Reply, Replied, Halted, Shut, Lacking, Play, Over, Calls, Evaluator, ending, on_value, first_cause, too_large, with_step, calling, by_reply, unless_stopped, stepped, settled, if_number_left, leaving, all_among, by_locks, sectioned, opened, run, changed, judged, passes, eval_at, begun}
+use Rattle.expr_tree.specs.declared.limits.Limits.{Limits}
+use Rattle.semantics.specs.Play.{Setting, State, End, Value, Stopped, Quit, Closed, Starved, Reply, Replied, Halted, Shut, Lacking, Play, Over, Calls, Evaluator, ending, on_value, first_cause, too_large, with_step, calling, by_reply, unless_stopped, stepped, settled, if_number_left, leaving, all_among, by_locks, sectioned, opened, run, changed, judged, passes, eval_at, begun}
 use Rattle.semantics.specs.Eval.{Event, if_matched, over, same_call}
 use Rattle.semantics.specs.Laws.{Looser, LooserKeeps, is_final, is_finished, with_limits}
 
@@ -66,7 +69,7 @@ calling-keeps : (c : Call) (s : State) {k l : Tree → State → Play} → Conti
 calling-keeps c s next = needs (λ r d. by_reply-keeps next r _)
 
 -- a stop stays one after the call Leave
-leave-unfinished : (cause : Cause) (r : Reply) (s : State) → Unfinished (by_reply r s (λ _ t. Over (Stopped cause) (opened None t)))
+leave-unfinished : (cause : Stop) (r : Reply) (s : State) → Unfinished (by_reply r s (λ _ t. Over (Stopped cause) (opened None t)))
 leave-unfinished cause (Replied v) s = ended (λ h. h)
 leave-unfinished cause (Halted c) s = ended (λ h. h)
 leave-unfinished cause Shut s = ended (λ h. h)
@@ -106,7 +109,7 @@ still_fits true b c d size_more depth_more e = absurd (subst (λ o. T (is_none o
 still_fits false true c d size_more depth_more e = absurd (subst (λ o. T (is_none o)) (sym e) tt)
 still_fits false false c d size_more depth_more e = rw (size_more refl, depth_more refl) refl
 
-unless_stopped-keeps : (a b : Option Cause) → (a ≡ None → b ≡ None) → (s : State) {k l : State → Play} → ((t : State) → Keeps (k t) (l t)) → Keeps (unless_stopped a s k) (unless_stopped b s l)
+unless_stopped-keeps : (a b : Option Stop) → (a ≡ None → b ≡ None) → (s : State) {k l : State → Play} → ((t : State) → Keeps (k t) (l t)) → Keeps (unless_stopped a s k) (unless_stopped b s l)
 unless_stopped-keeps None b cons s next = rw (cons refl) (next s)
 unless_stopped-keeps (Some cause) b cons s next = unfinished (ended (λ h. h))
 
@@ -131,8 +134,8 @@ sectioned-keeps (Some held) locks s a b c a' b' c' one two three = go (all_among
 module _ (set : Setting) (m : Limits) (cons : Looser set.limits m) where
   run-keeps : (ev ew : Evaluator) → Continues ev ew → (p : Prog) (s : State) → Keeps (run set ev p s) (run (with_limits set m) ew p s)
   run-keeps ev ew one (Done e) s = ends
-  run-keeps ev ew one (Stop c) s = ends
-  run-keeps ev ew one Leaves s = ends
+  run-keeps ev ew one (Stops c) s = ends
+  run-keeps ev ew one Quits s = ends
   run-keeps ev ew one (Ask e k) s = ending-keeps (on_value-stays _) (on_value-keeps (λ v t. run-keeps ev ew one (k v) t)) (one e s)
   run-keeps ev ew one (Within ls e k) s =
       ending-keeps (λ o t h. on_value-stays _ o _ h) (λ o t. on_value-keeps (λ v u. run-keeps ev ew one (k v) u) o _) (one e _)
@@ -148,6 +151,7 @@ module _ (set : Setting) (m : Limits) (cons : Looser set.limits m) where
   run-keeps ev ew one (Check e p) s = unless_stopped-keeps _ _ (fits-keeps set.limits m cons e) s (λ t. run-keeps ev ew one p t)
   run-keeps ev ew one (Outer c k) s = calling-keeps _ s (λ v t. run-keeps ev ew one (k v) t)
   run-keeps ev ew one (Moded k) s = run-keeps ev ew one (k set.mode set.kernel) _
+  run-keeps ev ew one (Shown k) s = run-keeps ev ew one (k set.shown) s
 
   -- one pass and what follows it; the changing passes that are left may be more
   changed-keeps : (a b : ℕ) → a ≤ b → (j k : Evaluator) → ((c d : ℕ) → a ≡ suc c → b ≡ suc d → Continues j k) → Continues (changed set a j) (changed (with_limits set m) b k)

@@ -1,9 +1,11 @@
 -- Where `used` is false at the end, mode and kernel number do not matter.
 use Rattle.std.proofs.Common.{◌≡◌, refl, sym, ◌∙◌, ℕ, zero, suc, Bool, true, false, List, [], ◌∷◌, Option, Some, None, true≢false}
-use Rattle.semantics.specs.Tree.{Sym, Tree, same}
+use Rattle.expr_tree.specs.declared.sym.Sym.{Sym}
+use Rattle.expr_tree.specs.Tree.{Tree}
+use Rattle.expr_tree.specs.Order.{same}
 use Rattle.semantics.specs.Definitions.{Definitions}
-use Rattle.semantics.specs.Program.{Prog, Done, Stop, Leaves, Ask, Within, Section, Open, Look, Put, Fresh, Turn, Check, Outer, Moded, Call, Mode}
-use Rattle.semantics.specs.declared.Cause.{Cause}
+use Rattle.semantics.specs.Program.{Prog, Done, Stops, Quits, Ask, Within, Section, Open, Look, Put, Fresh, Turn, Check, Outer, Moded, Shown, Call, Mode}
+use Rattle.expr_tree.specs.declared.limits.Stop.{Stop}
 use Rattle.semantics.specs.Pass.{pass}
 use Rattle.semantics.specs.Play.{Setting, State, End, Value, Stopped, Quit, Closed, Starved, Reply, Replied, Halted, Shut, Lacking, Play, Over, Calls, Evaluator, ending, on_value, calling, by_reply, unless_stopped, stepped, settled, if_number_left, leaving, all_among, by_locks, sectioned, opened, run, changed, judged, passes, eval_at, begun}
 use Rattle.semantics.specs.Eval.{Event, if_matched, over, same_call}
@@ -48,7 +50,7 @@ leaving-sticks sticky Quit s h = ended h
 leaving-sticks sticky Closed s h = ended h
 leaving-sticks sticky Starved s h = ended h
 
-pub unless_stopped-sticks : (a : Option Cause) (s : State) {k : State → Play} → ((t : State) → t.used ≡ true → Used (k t)) → s.used ≡ true → Used (unless_stopped a s k)
+pub unless_stopped-sticks : (a : Option Stop) (s : State) {k : State → Play} → ((t : State) → t.used ≡ true → Used (k t)) → s.used ≡ true → Used (unless_stopped a s k)
 unless_stopped-sticks None s sticky h = sticky s h
 unless_stopped-sticks (Some c) s sticky h = ended h
 
@@ -71,8 +73,8 @@ sectioned-sticks (Some held) locks s a b c one two three h = go (all_among locks
 
 pub run-sticks : (set : Setting) (ev : Evaluator) → Sticky ev → (p : Prog) (s : State) → s.used ≡ true → Used (run set ev p s)
 run-sticks set ev one (Done e) s h = ended h
-run-sticks set ev one (Stop c) s h = ended h
-run-sticks set ev one Leaves s h = ended h
+run-sticks set ev one (Stops c) s h = ended h
+run-sticks set ev one Quits s h = ended h
 run-sticks set ev one (Ask e k) s h = ending-sticks (on_value-sticks (λ v t. run-sticks set ev one (k v) t)) (one e s h)
 run-sticks set ev one (Within ls e k) s h =
     ending-sticks (λ o t g. on_value-sticks (λ v u. run-sticks set ev one (k v) u) o _ g) (one e _ h)
@@ -88,6 +90,7 @@ run-sticks set ev one (Turn p) s h = stepped-sticks _ s (λ t. run-sticks set ev
 run-sticks set ev one (Check e p) s h = unless_stopped-sticks _ s (λ t. run-sticks set ev one p t) h
 run-sticks set ev one (Outer c k) s h = calling-sticks _ s (λ v t. run-sticks set ev one (k v) t) h
 run-sticks set ev one (Moded k) s h = run-sticks set ev one (k set.mode set.kernel) _ refl
+run-sticks set ev one (Shown k) s h = run-sticks set ev one (k set.shown) s h
 
 pub changed-sticks : (set : Setting) (n : ℕ) (k : Evaluator) → Sticky k → Sticky (changed set n k)
 changed-sticks set zero k sticky v s h = ended h
@@ -150,7 +153,7 @@ leaving-alike next Quit s = ends
 leaving-alike next Closed s = ends
 leaving-alike next Starved s = ends
 
-unless_stopped-alike : (a : Option Cause) (s : State) {k l : State → Play} → ((t : State) → Alike (k t) (l t)) → Alike (unless_stopped a s k) (unless_stopped a s l)
+unless_stopped-alike : (a : Option Stop) (s : State) {k l : State → Play} → ((t : State) → Alike (k t) (l t)) → Alike (unless_stopped a s k) (unless_stopped a s l)
 unless_stopped-alike None s next = next s
 unless_stopped-alike (Some c) s next = ends
 
@@ -174,8 +177,8 @@ sectioned-alike (Some held) locks s a b c a' b' c' one two three = go (all_among
 module _ (set : Setting) (mode : Mode) (kernel : ℕ) where
   run-alike : (ev ew : Evaluator) → Sticky ev → AllAlike ev ew → (p : Prog) (s : State) → Alike (run set ev p s) (run (in_mode set mode kernel) ew p s)
   run-alike ev ew sticky one (Done e) s = ends
-  run-alike ev ew sticky one (Stop c) s = ends
-  run-alike ev ew sticky one Leaves s = ends
+  run-alike ev ew sticky one (Stops c) s = ends
+  run-alike ev ew sticky one Quits s = ends
   run-alike ev ew sticky one (Ask e k) s =
       ending-alike (on_value-sticks (λ v t. run-sticks set ev sticky (k v) t)) (on_value-alike (λ v t. run-alike ev ew sticky one (k v) t)) (one e s)
   run-alike ev ew sticky one (Within ls e k) s =
@@ -194,6 +197,7 @@ module _ (set : Setting) (mode : Mode) (kernel : ℕ) where
   run-alike ev ew sticky one (Check e p) s = unless_stopped-alike _ s (λ t. run-alike ev ew sticky one p t)
   run-alike ev ew sticky one (Outer c k) s = calling-alike _ s (λ v t. run-alike ev ew sticky one (k v) t)
   run-alike ev ew sticky one (Moded k) s = used (run-sticks set ev sticky (k set.mode set.kernel) _ refl)
+  run-alike ev ew sticky one (Shown k) s = run-alike ev ew sticky one (k set.shown) s
 
   changed-alike : (n : ℕ) (j k : Evaluator) → AllAlike j k → AllAlike (changed set n j) (changed (in_mode set mode kernel) n k)
   changed-alike zero j k next v s = ends

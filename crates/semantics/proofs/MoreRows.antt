@@ -1,11 +1,11 @@
 -- More worked rows, closed by `refl`.
 use Rattle.std.proofs.Common.{◌≡◌, refl, ℕ, zero, suc, [], ◌∷◌, true}
 use Rattle.std.specs.Prelude.{negsuc}
-use Rattle.semantics.specs.Tree.{Tree, integer, call}
+use Rattle.expr_tree.specs.Tree.{Tree, integer, call}
 use Rattle.semantics.specs.Builtin.{Builtin}
 use Rattle.semantics.specs.Names.{name}
 use Rattle.semantics.specs.Definitions.{Definitions, Variable, empty}
-use Rattle.semantics.specs.declared.Cause.{Cause}
+use Rattle.expr_tree.specs.declared.limits.Stop.{Stop}
 use Rattle.semantics.specs.Program.{Item, Access, Outside, Sends, Enter, Leave, Count}
 use Rattle.semantics.specs.Play.{Setting, Replied}
 use Rattle.semantics.specs.Eval.{Outcome, Needs, Wrong, eval}
@@ -89,7 +89,7 @@ unfolding map_call
 wrongly = refl
 
 in_item : Setting
-in_item = record { names = names; mode = Item; kernel = 3; limits = product_limits }
+in_item = record { names = names; shown = λ e. []; mode = Item; kernel = 3; limits = product_limits }
 
 -- n is a shared variable
 sharing : Definitions
@@ -130,7 +130,7 @@ deepest : cells (nested 255 f' x' ∷ []) ≡ value (nested 255 f' x') ∷ []
 unfolding nested
 deepest = refl
 
-too_deep : cells (nested 256 f' x' ∷ []) ≡ stopped Cause.Recursion ∷ []
+too_deep : cells (nested 256 f' x' ∷ []) ≡ stopped Stop.Recursion ∷ []
 unfolding nested
 too_deep = refl
 

@@ -1,9 +1,11 @@
 -- Every evaluation makes Enter where no section is open, and Leave where one is.
 use Rattle.std.proofs.Common.{◌≡◌, refl, sym, ap, subst, ◌∙◌, ℕ, zero, suc, Bool, true, false, T, not, List, Option, Some, None, is_some, true≢false}
-use Rattle.semantics.specs.Tree.{Sym, Tree, same}
+use Rattle.expr_tree.specs.declared.sym.Sym.{Sym}
+use Rattle.expr_tree.specs.Tree.{Tree}
+use Rattle.expr_tree.specs.Order.{same}
 use Rattle.semantics.specs.Definitions.{Definitions}
-use Rattle.semantics.specs.Program.{Prog, Done, Stop, Leaves, Ask, Within, Section, Open, Look, Put, Fresh, Turn, Check, Outer, Moded, Request, Sends, Enter, Leave}
-use Rattle.semantics.specs.declared.Cause.{Cause}
+use Rattle.semantics.specs.Program.{Prog, Done, Stops, Quits, Ask, Within, Section, Open, Look, Put, Fresh, Turn, Check, Outer, Moded, Shown, Request, Sends, Enter, Leave}
+use Rattle.expr_tree.specs.declared.limits.Stop.{Stop}
 use Rattle.semantics.specs.Pass.{pass}
 use Rattle.semantics.specs.Play.{Setting, State, End, Value, Stopped, Quit, Closed, Starved, Reply, Replied, Halted, Shut, Lacking, Play, Over, Evaluator, ending, on_value, without_locals, calling, by_reply, unless_stopped, stepped, settled, if_number_left, all_among, by_locks, sectioned, leaving, opened, run, changed, judged, passes, eval_at, begun, with_definitions}
 use Rattle.semantics.specs.Opened.{opens, Still, Orderly, ended, called, SectionsInOrder}
@@ -55,7 +57,7 @@ by_reply-orderly a k next Lacking s kept = over a _ s kept
 sends-orderly : (a : Bool) (c : Request) (s : State) (k : Tree → State → Play) → Carries a k → Kept a s → Orderly a (open_in s) (calling (Sends c) s k)
 sends-orderly a c s k next kept = called refl tt (λ r d. by_reply-orderly a k next r (with_definitions d s) kept)
 
-unless_stopped-orderly : (a : Bool) (o : Option Cause) (s : State) (k : State → Play) → Kept a s → ((t : State) → Kept a t → Orderly a (open_in t) (k t)) → Orderly a (open_in s) (unless_stopped o s k)
+unless_stopped-orderly : (a : Bool) (o : Option Stop) (s : State) (k : State → Play) → Kept a s → ((t : State) → Kept a t → Orderly a (open_in t) (k t)) → Orderly a (open_in s) (unless_stopped o s k)
 unless_stopped-orderly a None s k kept next = next s kept
 unless_stopped-orderly a (Some c) s k kept next = over a _ s kept
 
@@ -116,8 +118,8 @@ InOrder ev = (e : Tree) (s : State) → Orderly (open_in s) (open_in s) (ev e s)
 
 pub run-orderly : (set : Setting) (ev : Evaluator) → InOrder ev → (p : Prog) (s : State) (a : Bool) → Kept a s → Orderly a (open_in s) (run set ev p s)
 run-orderly set ev one (Done e) s a kept = over a _ s kept
-run-orderly set ev one (Stop c) s a kept = over a _ s kept
-run-orderly set ev one Leaves s a kept = over a _ s kept
+run-orderly set ev one (Stops c) s a kept = over a _ s kept
+run-orderly set ev one Quits s a kept = over a _ s kept
 run-orderly set ev one (Ask e k) s a kept = ending-orderly (on_value-orderly a (open_in s) kept _ (λ v t. run-orderly set ev one (k v) t a)) (one e s)
 run-orderly set ev one (Within ls e k) s a kept =
     ending-orderly {b = open_in s} (λ o t h. on_value-orderly a (open_in s) kept (λ v u. run set ev (k v) u) (λ v u. run-orderly set ev one (k v) u a) o (without_locals set.names s.definitions ls t) h) (one e _)
@@ -135,6 +137,7 @@ run-orderly set ev one (Turn p) s a kept = stepped-orderly a _ s _ kept (λ t. r
 run-orderly set ev one (Check e p) s a kept = unless_stopped-orderly a _ s _ kept (λ t. run-orderly set ev one p t a)
 run-orderly set ev one (Outer c k) s a kept = sends-orderly a c s _ (λ v t. run-orderly set ev one (k v) t a) kept
 run-orderly set ev one (Moded k) s a kept = run-orderly set ev one (k set.mode set.kernel) _ a kept
+run-orderly set ev one (Shown k) s a kept = run-orderly set ev one (k set.shown) s a kept
 
 changed-orderly : (set : Setting) (a : Bool) (n : ℕ) (k : Evaluator) → Carries a k → Carries a (changed set n k)
 changed-orderly set a zero k next v s kept = over a _ s kept

@@ -1,12 +1,12 @@
 -- Worked rows: each is closed by `refl`, so antt's own evaluation runs the definition.
 use Rattle.std.proofs.Common.{◌≡◌, refl, [], ◌∷◌}
-use Rattle.semantics.specs.Tree.{integer, symbol, call}
+use Rattle.expr_tree.specs.Tree.{integer, symbol, call}
 use Rattle.semantics.specs.Builtin.{Builtin}
 use Rattle.semantics.specs.Names.{make, name}
 use Rattle.std.specs.Prelude.{negsuc}
 use Rattle.semantics.specs.Definitions.{empty}
-use Rattle.semantics.specs.declared.Cause.{Cause}
-use Rattle.semantics.specs.Play.{Limits}
+use Rattle.expr_tree.specs.declared.limits.Stop.{Stop}
+use Rattle.expr_tree.specs.declared.limits.Limits.{Limits}
 use Rattle.semantics.specs.Eval.{Outcome}
 use Rattle.semantics.proofs.Script.{names, cells, value, stopped, script, a', b', c', f', g', h', r', x', y', fac', area', sq', n', i', p', o', q', int, blank, blanks, plus, times, equals, delayed, replacing, rule, condition, greater, list, apply, minus_one}
 
@@ -33,7 +33,7 @@ row_3 = refl
 -- fac[33], and fac[34] is out of range
 row_4 :
     cells (delayed (apply fac' (blank n')) (times n' (apply fac' (plus n' minus_one))) ∷ equals (apply fac' (int 0)) (int 1) ∷ apply fac' (int 33) ∷ apply fac' (int 34) ∷ [])
-    ≡ none' ∷ value (int 1) ∷ value (int 8683317618811886495518194401280000000) ∷ stopped Cause.Range ∷ []
+    ≡ none' ∷ value (int 1) ∷ value (int 8683317618811886495518194401280000000) ∷ stopped Stop.Range ∷ []
 row_4 = refl
 
 -- SetAttributes[g, {Flat, Orderless}]; g[c, g[b, a]]; {1, 2} + 1; {1, 2, 3} + {1, 2}
@@ -67,7 +67,7 @@ row_8_small :
     script small empty (
     delayed (apply h' (blank x')) (apply h' (plus x' (int 1))) ∷ apply h' (int 0)
     ∷ delayed (apply r' (blank x')) (plus (int 1) (apply r' x')) ∷ apply r' (int 0) ∷ [])
-    ≡ none' ∷ stopped Cause.Iteration ∷ none' ∷ stopped Cause.Recursion ∷ []
+    ≡ none' ∷ stopped Stop.Iteration ∷ none' ∷ stopped Stop.Recursion ∷ []
 unfolding small
 row_8_small = refl
 
@@ -88,7 +88,7 @@ hundred = record { recursion = 256; iteration = 4096; steps = 100; size = 400000
 -- Do[1, {99}] and Do[1, {100}] in 100 steps
 row_25 :
     script hundred empty (make names Builtin.Do (int 1 ∷ list (int 99 ∷ []) ∷ []) ∷ make names Builtin.Do (int 1 ∷ list (int 100 ∷ []) ∷ []) ∷ [])
-    ≡ none' ∷ stopped Cause.Steps ∷ []
+    ≡ none' ∷ stopped Stop.Steps ∷ []
 unfolding hundred
 row_25 = refl
 
@@ -139,7 +139,7 @@ one_step : Limits
 one_step = record { recursion = 256; iteration = 4096; steps = 1; size = 4000000; depth = 512 }
 
 -- in one step: 1 + 2; 1 + (2 + 3)
-one_step_row : script one_step empty (plus (int 1) (int 2) ∷ plus (int 1) (plus (int 2) (int 3)) ∷ []) ≡ value (int 3) ∷ stopped Cause.Steps ∷ []
+one_step_row : script one_step empty (plus (int 1) (int 2) ∷ plus (int 1) (plus (int 2) (int 3)) ∷ []) ≡ value (int 3) ∷ stopped Stop.Steps ∷ []
 unfolding one_step
 one_step_row = refl
 
@@ -171,5 +171,5 @@ row_8 :
     cells (
     delayed (apply h' (blank x')) (apply h' (plus x' (int 1))) ∷ apply h' (int 0)
     ∷ delayed (apply r' (blank x')) (plus (int 1) (apply r' x')) ∷ apply r' (int 0) ∷ [])
-    ≡ none' ∷ stopped Cause.Iteration ∷ none' ∷ stopped Cause.Recursion ∷ []
+    ≡ none' ∷ stopped Stop.Iteration ∷ none' ∷ stopped Stop.Recursion ∷ []
 row_8 = refl

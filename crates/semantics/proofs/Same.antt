@@ -5,7 +5,9 @@ use Rattle.std.specs.declared.cmp.Ordering.{Ordering}
 use Rattle.std.specs.declared.cmp.Ordering.TheVariants.{Equal}
 use Rattle.std.specs.Ordering.{is_eq, nat_cmp, ordering_then}
 use Rattle.std.specs.Cmp.{nat_cmp_is, int_cmp_is}
-use Rattle.semantics.specs.Tree.{Sym, Tree, Trees, integer, string, symbol, normal, nil, cons, tree_cmp, trees_cmp, symbol_cmp, text_cmp, count, same, same_symbol}
+use Rattle.expr_tree.specs.declared.sym.Sym.{Sym}
+use Rattle.expr_tree.specs.Tree.{Tree, Trees, integer, string, symbol, normal, nil, cons, count}
+use Rattle.expr_tree.specs.Order.{tree_cmp, trees_cmp, symbol_cmp, text_cmp, same, same_symbol}
 use Rattle.semantics.specs.Program.{Request, Access, Count, Print, Outside, Call, Sends, Enter, Leave}
 use Rattle.semantics.specs.Eval.{same_symbols, same_request, same_call}
 

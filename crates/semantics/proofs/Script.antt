@@ -1,13 +1,14 @@
 -- Names, expressions and cells for the worked rows.
 use Rattle.std.proofs.Common.{ℕ, zero, suc, ◌+◌, List, [], ◌∷◌, Option, Some, None}
 use Rattle.std.specs.Prelude.{pos, negsuc}
-use Rattle.semantics.specs.Tree.{Tree, integer, symbol, call}
+use Rattle.expr_tree.specs.Tree.{Tree, integer, symbol, call}
 use Rattle.semantics.specs.Builtin.{Builtin, row_number, rows}
 use Rattle.semantics.specs.Names.{Names, make}
 use Rattle.semantics.specs.Definitions.{Definitions, empty}
 use Rattle.semantics.specs.Program.{Cell}
-use Rattle.semantics.specs.declared.Cause.{Cause}
-use Rattle.semantics.specs.Play.{Limits, Setting, Value as Gave, Stopped as Stops}
+use Rattle.expr_tree.specs.declared.limits.Stop.{Stop}
+use Rattle.expr_tree.specs.declared.limits.Limits.{Limits}
+use Rattle.semantics.specs.Play.{Setting, Value as Gave, Stopped as Stops}
 use Rattle.semantics.specs.Eval.{Outcome, Ended, eval}
 
 abbrev pub row_at : List Builtin → ℕ → Option Builtin
@@ -23,7 +24,7 @@ abbrev pub product_limits : Limits
 product_limits = record { recursion = 256; iteration = 4096; steps = 1000000; size = 4000000; depth = 512 }
 
 abbrev pub in_cell : Limits → Setting
-in_cell limits = record { names = names; mode = Cell; kernel = 0; limits = limits }
+in_cell limits = record { names = names; shown = λ e. []; mode = Cell; kernel = 0; limits = limits }
 
 -- the outcomes of the cells of a script, each from the definitions that the one before left
 abbrev pub script : Limits → Definitions → List Tree → List Outcome
@@ -33,7 +34,7 @@ script limits d (e ∷ es) = let r = eval (in_cell limits) d e [] in r.outcome �
 abbrev pub value : Tree → Outcome
 value e = Ended (Gave e)
 
-abbrev pub stopped : Cause → Outcome
+abbrev pub stopped : Stop → Outcome
 stopped c = Ended (Stops c)
 
 abbrev pub cells : List Tree → List Outcome

@@ -5,7 +5,8 @@ use Rattle.std.specs.declared.cmp.Ordering.{Ordering}
 use Rattle.std.specs.declared.cmp.Ordering.TheVariants.{Less, Equal, Greater}
 use Rattle.std.specs.Ordering.{is_eq, nat_cmp, ordering_then}
 use Rattle.std.specs.Cmp.{ranked, nat_cmp_is}
-use Rattle.semantics.specs.Tree.{Sym, symbol_cmp, same_symbol}
+use Rattle.expr_tree.specs.declared.sym.Sym.{Sym}
+use Rattle.expr_tree.specs.Order.{symbol_cmp, same_symbol}
 use Rattle.semantics.specs.Builtin.{Builtin, row_number, rows}
 use Rattle.semantics.specs.Names.{Names}
 use Rattle.semantics.specs.Definitions.{Definition, Definitions, Attributes, same_attributes, first_definition, is_first, is_empty, look_up, drop_entry, add_entry, stored, put}

@@ -1,7 +1,7 @@
 -- Rows with the names that stand in the order of names, found by their texts.
 use Rattle.std.proofs.Common.{◌≡◌, refl, ℕ, List, [], ◌∷◌}
 use Rattle.std.specs.Prelude.{pos, codes}
-use Rattle.semantics.specs.Tree.{integer, symbol}
+use Rattle.expr_tree.specs.Tree.{integer, symbol}
 use Rattle.semantics.specs.Builtin.{Builtin}
 use Rattle.semantics.specs.Names.{Names, make}
 use Rattle.semantics.specs.Definitions.{empty}
@@ -41,7 +41,7 @@ abbrev names : Names
 names = names_of texts
 
 abbrev in_cell : Setting
-in_cell = record { names = names; mode = Cell; kernel = 0; limits = product_limits }
+in_cell = record { names = names; shown = λ e. []; mode = Cell; kernel = 0; limits = product_limits }
 
 -- 1 + x
 sum_row : (eval in_cell empty (make names Builtin.Plus (integer (pos 1) ∷ symbol (record { base = 169; number = 0 }) ∷ integer (pos 2) ∷ [])) []).outcome

@@ -1,6 +1,6 @@
 -- The steps of a pass that a left side of an assignment goes through too: head, elements, splicing, flattening, threading, sorting.
 use Rattle.std.specs.Prelude.{List, [], ◌∷◌, ◌++◌, Bool, true, false, ◌&&◌, ◌||◌, not, Option, Some, None}
-use Rattle.semantics.specs.Tree.{Tree, symbol, normal, elements, call}
+use Rattle.expr_tree.specs.Tree.{Tree, symbol, normal, elements, call}
 use Rattle.semantics.specs.Builtin.{Builtin}
 use Rattle.semantics.specs.Names.{Names, is_call, items_of, make}
 use Rattle.semantics.specs.Steps.{splice, flatten, thread, ordered}

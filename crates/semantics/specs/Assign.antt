@@ -4,9 +4,10 @@
 --     places                     the symbols that an assignment is attached to, with the place
 --     refusal                    the first cause for which an assignment is refused
 use Rattle.std.specs.Prelude.{List, [], ◌∷◌, ◌++◌, Bool, true, false, ◌&&◌, ◌||◌, not, Option, Some, None}
-use Rattle.semantics.specs.Tree.{Sym, Tree, integer, string, symbol, normal, Trees, nil, cons, symbol_of}
+use Rattle.expr_tree.specs.declared.sym.Sym.{Sym}
+use Rattle.expr_tree.specs.Tree.{Tree, integer, string, symbol, normal, Trees, nil, cons}
 use Rattle.semantics.specs.Builtin.{Builtin}
-use Rattle.semantics.specs.Names.{Names, is_name, is_call, items_of}
+use Rattle.semantics.specs.Names.{Names, is_name, is_call, items_of, symbol_of}
 use Rattle.semantics.specs.Binding.{among}
 use Rattle.semantics.specs.Rule.{insert}
 use Rattle.semantics.specs.Definitions.{Definition}

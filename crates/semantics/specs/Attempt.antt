@@ -1,6 +1,8 @@
 -- A rule tried on an expression, and a list of rules tried in order.
 use Rattle.std.specs.Prelude.{List, [], ◌∷◌, ◌++◌, map, true, false}
-use Rattle.semantics.specs.Tree.{Sym, Tree, same_symbol}
+use Rattle.expr_tree.specs.declared.sym.Sym.{Sym}
+use Rattle.expr_tree.specs.Tree.{Tree}
+use Rattle.expr_tree.specs.Order.{same_symbol}
 use Rattle.semantics.specs.Builtin.{Builtin}
 use Rattle.semantics.specs.Names.{Names, is_name}
 use Rattle.semantics.specs.Binding.{Binding, put_in_place}

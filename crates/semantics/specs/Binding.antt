@@ -5,7 +5,9 @@
 --     put_in_place          an expression with the runs of a binding put in; a run of one stands for itself, another run for Sequence of it
 --     fill_slots            an expression with the arguments of a pure function put in for its slots
 use Rattle.std.specs.Prelude.{ℕ, zero, suc, pos, List, [], ◌∷◌, ◌++◌, length, drop, Bool, true, false, ◌||◌, ltb, Option, Some, None}
-use Rattle.semantics.specs.Tree.{Sym, Tree, integer, string, symbol, normal, Trees, nil, cons, same_symbol, elements}
+use Rattle.expr_tree.specs.declared.sym.Sym.{Sym}
+use Rattle.expr_tree.specs.Tree.{Tree, integer, string, symbol, normal, Trees, nil, cons, elements}
+use Rattle.expr_tree.specs.Order.{same_symbol}
 use Rattle.semantics.specs.Builtin.{Builtin}
 use Rattle.semantics.specs.Names.{Names, is_call, is_name, items_of, make}
 

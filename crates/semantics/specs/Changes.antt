@@ -1,8 +1,10 @@
 -- Assignment: the rows that change definitions, as programs.
 use Rattle.std.specs.Prelude.{ℤ, negsuc, List, [], ◌∷◌, map, Bool, true, false, ◌&&◌, ◌||◌, not, Option, Some, None, is_some}
-use Rattle.semantics.specs.Tree.{Sym, Tree, integer, symbol, symbol_of, same_symbol}
+use Rattle.expr_tree.specs.declared.sym.Sym.{Sym}
+use Rattle.expr_tree.specs.Tree.{Tree, integer, symbol}
+use Rattle.expr_tree.specs.Order.{same_symbol}
 use Rattle.semantics.specs.Builtin.{Builtin}
-use Rattle.semantics.specs.Names.{Names, name, is_call, items_of, make, role_of}
+use Rattle.semantics.specs.Names.{Names, name, is_call, items_of, make, role_of, symbol_of}
 use Rattle.semantics.specs.Steps.{ordered}
 use Rattle.semantics.specs.Rule.{remove, has_left}
 use Rattle.semantics.specs.Definitions.{Definition, Attributes, has}

@@ -1,11 +1,13 @@
 -- The control forms: what the control forms ask for, and what they give. `stay` is the program of an expression that has no equation.
 use Rattle.std.specs.Prelude.{ℕ, zero, suc, ◌+◌, ◌/◌, ℤ, pos, ◌+ℤ◌, ◌-ℤ◌, int_lt, int_le, nat_abs, List, [], ◌∷◌, reverse, Bool, true, false, ◌&&◌, ◌||◌, Option, Some, None}
 use Rattle.std.specs.Ordering.{int_eq}
-use Rattle.semantics.specs.Tree.{Sym, Tree, integer, symbol, normal, elements, call, same}
+use Rattle.expr_tree.specs.declared.sym.Sym.{Sym}
+use Rattle.expr_tree.specs.Tree.{Tree, integer, symbol, normal, elements, call}
+use Rattle.expr_tree.specs.Order.{same}
 use Rattle.semantics.specs.Builtin.{Builtin}
 use Rattle.semantics.specs.Names.{Names, name, is_name, is_call, items_of, make}
-use Rattle.semantics.specs.Program.{Prog, Done, Stop, Ask, Within, Look, Turn, Check, Moded, Local}
-use Rattle.semantics.specs.declared.Cause.{Cause}
+use Rattle.semantics.specs.Program.{Prog, Done, Stops, Ask, Within, Look, Turn, Check, Moded, Local}
+use Rattle.expr_tree.specs.declared.limits.Stop.{Stop}
 
 -- a loop takes no more turns than the greatest number of steps that any limits allow; each turn is a step
 abbrev pub most_turns : ℕ
@@ -62,7 +64,7 @@ connected names row going ending (e ∷ es) kept =
     ])
 
 abbrev pub while_true : Names → ℕ → Tree → Tree → Prog
-while_true names zero c e = Stop Cause.Steps
+while_true names zero c e = Stops Stop.Steps
 while_true names (suc n) c e =
     Turn (Ask c (λ v. elim (is_name names Builtin.True v) [ true ↦ Ask e (λ _. while_true names n c e) | false ↦ null names ]))
 
@@ -154,7 +156,7 @@ nest stay _ = stay
 
 -- as in Nest, until a value is that before it
 abbrev pub until_fixed : ℕ → Tree → Tree → Prog
-until_fixed zero f x = Stop Cause.Steps
+until_fixed zero f x = Stops Stop.Steps
 until_fixed (suc n) f x = applied f (x ∷ []) (λ v. elim (same v x) [ true ↦ Done v | false ↦ until_fixed n f v ])
 
 abbrev pub fixed_point : Prog → List Tree → Prog

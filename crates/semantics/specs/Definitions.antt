@@ -5,7 +5,9 @@
 --     definition_of, put     the definition of a symbol; definitions with another one for a symbol
 use Rattle.std.specs.Prelude.{ℕ, List, [], ◌∷◌, Bool, true, false, ◌&&◌, ◌==◌, Option, Some, None, is_none}
 use Rattle.std.specs.declared.cmp.Ordering.TheVariants.{Less}
-use Rattle.semantics.specs.Tree.{Sym, Tree, symbol_cmp, same_symbol}
+use Rattle.expr_tree.specs.declared.sym.Sym.{Sym}
+use Rattle.expr_tree.specs.Tree.{Tree}
+use Rattle.expr_tree.specs.Order.{symbol_cmp, same_symbol}
 use Rattle.semantics.specs.Builtin.{Builtin, row_number, first_attributes}
 use Rattle.semantics.specs.Names.{Names, role_of}
 use Rattle.semantics.specs.Rule.{Rule}

@@ -4,7 +4,9 @@
 --     eval              an evaluation over a list
 use Rattle.std.specs.Prelude.{ℕ, List, [], ◌∷◌, Bool, true, false, ◌&&◌}
 use Rattle.std.specs.Ordering.{is_eq}
-use Rattle.semantics.specs.Tree.{Sym, Tree, same, same_symbol, text_cmp}
+use Rattle.expr_tree.specs.declared.sym.Sym.{Sym}
+use Rattle.expr_tree.specs.Tree.{Tree}
+use Rattle.expr_tree.specs.Order.{same, same_symbol, text_cmp}
 use Rattle.semantics.specs.Definitions.{Definitions}
 use Rattle.semantics.specs.Program.{Request, Access, Count, Print, Outside, Call, Sends, Enter, Leave}
 use Rattle.semantics.specs.Play.{State, Setting, End, Reply, Play, Over, Calls, whole}

@@ -4,11 +4,14 @@
 --     ModeIndependent   where `used` is false, mode and kernel number do not matter
 --     PutLaw            another definition of a symbol is stored for it alone
 use Rattle.std.specs.Prelude.{◌≡◌, ℕ, ◌≤◌, Bool, true, false, T, List}
-use Rattle.semantics.specs.Tree.{Tree, Sym, same_symbol}
+use Rattle.expr_tree.specs.declared.sym.Sym.{Sym}
+use Rattle.expr_tree.specs.Tree.{Tree}
+use Rattle.expr_tree.specs.Order.{same_symbol}
 use Rattle.semantics.specs.Names.{Names}
 use Rattle.semantics.specs.Definitions.{Definition, Definitions, stored, put}
 use Rattle.semantics.specs.Program.{Mode}
-use Rattle.semantics.specs.Play.{Limits, Setting, End, Value, Quit}
+use Rattle.expr_tree.specs.declared.limits.Limits.{Limits}
+use Rattle.semantics.specs.Play.{Setting, End, Value, Quit}
 use Rattle.semantics.specs.Eval.{Event, Outcome, Ended, eval}
 
 pub record Looser (l m : Limits) : Type 0 where

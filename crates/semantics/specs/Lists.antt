@@ -1,7 +1,8 @@
--- The rows of lists and texts that are functions of the expression alone.
+-- The rows of lists that are functions of the elements alone. An atom in the place of a list, or a place out of range, has no equation.
 use Rattle.std.specs.Prelude.{ℕ, zero, suc, ◌+◌, ℤ, pos, negsuc, ◌+ℤ◌, List, [], ◌∷◌, ◌++◌, map, reverse, length, take, drop, replicate, ◌-◌, leb, ltb, ◌&&◌, ◌==◌, Bool, true, false, Option, Some, None}
 use Rattle.std.specs.Ordering.{int_eq, is_gt}
-use Rattle.semantics.specs.Tree.{Tree, integer, string, symbol, normal, Trees, nil, cons, elements, call, same, tree_cmp}
+use Rattle.expr_tree.specs.Tree.{Tree, integer, string, symbol, normal, Trees, nil, cons, elements, call}
+use Rattle.expr_tree.specs.Order.{same, tree_cmp}
 use Rattle.semantics.specs.Builtin.{Builtin}
 use Rattle.semantics.specs.Names.{Names, is_name, is_call, items_of, make}
 use Rattle.semantics.specs.Steps.{ordered}
@@ -275,41 +276,3 @@ abbrev pub in_order : List Tree → Bool
 in_order [] = true
 in_order (e ∷ []) = true
 in_order (e ∷ f ∷ es) = elim (is_gt (tree_cmp e f)) [ true ↦ false | false ↦ in_order (f ∷ es) ]
-
-abbrev pub join_texts : List Tree → Option (List ℕ)
-join_texts [] = Some []
-join_texts (string t ∷ es) = elim (join_texts es) [ None ↦ None | Some u ↦ Some (t ++ u) ]
-join_texts (e ∷ es) = None
-
-abbrev pub string_join : List Tree → Worked
-string_join es = elim (join_texts es) [ None ↦ Stays | Some t ↦ Gives (string t) ]
-
--- whether a text goes on inside a character: its first byte is of the form 10xxxxxx
-abbrev pub goes_on : List ℕ → Bool
-goes_on [] = false
-goes_on (c ∷ t) = leb 128 c && ltb c 192
-
-abbrev pub add_byte : ℕ → Bool → List (List ℕ) → List (List ℕ)
-add_byte c true (t ∷ ts) = (c ∷ t) ∷ ts
-add_byte c _ ts = (c ∷ []) ∷ ts
-
--- the characters of a text in UTF-8
-abbrev pub characters_of : List ℕ → List (List ℕ)
-characters_of [] = []
-characters_of (c ∷ t) = add_byte c (goes_on t) (characters_of t)
-
-abbrev pub joined_texts : List (List ℕ) → List ℕ
-joined_texts [] = []
-joined_texts (t ∷ ts) = t ++ joined_texts ts
-
-abbrev pub string_length : List Tree → Worked
-string_length (string t ∷ []) = Gives (integer (pos (length (characters_of t))))
-string_length _ = Stays
-
-abbrev pub characters : Names → List Tree → Worked
-characters names (string t ∷ []) = Gives (make names Builtin.List (map string (characters_of t)))
-characters names _ = Stays
-
-abbrev pub string_reverse : List Tree → Worked
-string_reverse (string t ∷ []) = Gives (string (joined_texts (reverse (characters_of t))))
-string_reverse _ = Stays

@@ -3,7 +3,9 @@
 --     matches                  this list
 --     heads                    the symbols whose attributes the list depends on
 use Rattle.std.specs.Prelude.{ℕ, zero, suc, List, [], ◌∷◌, ◌++◌, map, length, Bool, true, false, ◌&&◌, ◌==◌, Some, None}
-use Rattle.semantics.specs.Tree.{Sym, Tree, integer, string, symbol, normal, Trees, nil, cons, elements, call, count, same}
+use Rattle.expr_tree.specs.declared.sym.Sym.{Sym}
+use Rattle.expr_tree.specs.Tree.{Tree, integer, string, symbol, normal, Trees, nil, cons, elements, call, count}
+use Rattle.expr_tree.specs.Order.{same}
 use Rattle.semantics.specs.Builtin.{Builtin}
 use Rattle.semantics.specs.Names.{Names, is_name, head_of}
 use Rattle.semantics.specs.Binding.{Binding, value_of, put_in_place}

@@ -1,7 +1,8 @@
 -- The rows of numbers: Plus, Times, Power and those beside them.
 use Rattle.std.specs.Prelude.{ℕ, zero, suc, ◌*◌, ◌^◌, ◌/◌, ◌%◌, ℤ, pos, negsuc, ◌+ℤ◌, ◌*ℤ◌, ◌-ℤ◌, neg_ℤ, nat_abs, List, [], ◌∷◌, ◌++◌, Bool, true, false, ◌&&◌, ltb, not, ◌==◌, Option, Some, None}
 use Rattle.std.specs.Ordering.{int_eq}
-use Rattle.semantics.specs.Tree.{Tree, integer, string, symbol, normal, Trees, nil, cons, trees, same}
+use Rattle.expr_tree.specs.Tree.{Tree, integer, string, symbol, normal, Trees, nil, cons, trees}
+use Rattle.expr_tree.specs.Order.{same}
 use Rattle.semantics.specs.Builtin.{Builtin}
 use Rattle.semantics.specs.Names.{Names, is_name, is_call, items_of, make, truth}
 use Rattle.semantics.specs.Steps.{ordered}

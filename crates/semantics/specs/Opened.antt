@@ -2,7 +2,7 @@
 --     opens, may_call     whether a section is open after a reply; which calls are made where one is open or not
 --     Orderly             a play whose states say whether a section is open, and which makes its calls accordingly
 use Rattle.std.specs.Prelude.{◌≡◌, Bool, true, false, T, not, is_some}
-use Rattle.semantics.specs.Tree.{Tree}
+use Rattle.expr_tree.specs.Tree.{Tree}
 use Rattle.semantics.specs.Definitions.{Definitions}
 use Rattle.semantics.specs.Program.{Call, Sends, Enter, Leave}
 use Rattle.semantics.specs.Play.{Setting, State, End, Value, Stopped, Reply, Replied, Halted, Shut, Lacking, Play, Over, Calls, whole}

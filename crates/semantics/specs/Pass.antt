@@ -4,9 +4,10 @@
 -- under Listable it is threaded over Lists; under Orderless it is sorted; the up rules of the symbol of each element are tried;
 -- then the down rules of the head, then the head's row of the table. The first of these that gives a result ends the pass.
 use Rattle.std.specs.Prelude.{pos, List, [], ◌∷◌, true, false, ◌&&◌, not, Option, Some, None}
-use Rattle.semantics.specs.Tree.{Sym, Tree, integer, string, symbol, normal, elements, call, symbol_of}
+use Rattle.expr_tree.specs.declared.sym.Sym.{Sym}
+use Rattle.expr_tree.specs.Tree.{Tree, integer, string, symbol, normal, elements, call}
 use Rattle.semantics.specs.Builtin.{Builtin}
-use Rattle.semantics.specs.Names.{Names, is_name, make, role_of}
+use Rattle.semantics.specs.Names.{Names, is_name, make, role_of, symbol_of}
 use Rattle.semantics.specs.Steps.{strip, has_wrapper}
 use Rattle.semantics.specs.Definitions.{Attributes, Share, Variable, Function, has}
 use Rattle.semantics.specs.Program.{Prog, Done, Look, Outer, Moded, Seen, Count}

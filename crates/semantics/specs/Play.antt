@@ -1,24 +1,20 @@
 -- The meaning of a program: how an evaluation goes. It names no list of answers: where it needs a call, it says how it goes on from each reply.
---     Limits, State, End    the five limits; what changes while it runs; how it ends
+--     State, End            what changes while it runs; how it ends
 --     Play                  an end, or a call that is needed and how it goes on
 --     run                   the meaning of a program, given what the evaluation of an expression one deeper means
 --     passes, eval_at       passes to a fixed point; an evaluation with so many nested evaluations left
 use Rattle.std.specs.Prelude.{ℕ, zero, suc, ◌+◌, List, [], ◌∷◌, Bool, true, false, ltb, ◌==◌, ◌&&◌, Option, Some, None}
-use Rattle.semantics.specs.Tree.{Sym, Tree, size, depth, same}
+use Rattle.expr_tree.specs.declared.sym.Sym.{Sym}
+use Rattle.expr_tree.specs.Tree.{Tree, size, depth}
+use Rattle.expr_tree.specs.Order.{same}
 use Rattle.semantics.specs.Builtin.{Builtin}
 use Rattle.semantics.specs.Names.{Names, name}
 use Rattle.semantics.specs.Binding.{among}
 use Rattle.semantics.specs.Definitions.{Definition, Definitions, definition_of, stored, shared_as, put}
-use Rattle.semantics.specs.declared.Cause.{Cause}
-use Rattle.semantics.specs.Program.{Prog, Done, Stop, Leaves, Ask, Within, Section, Open, Look, Put, Fresh, Turn, Check, Outer, Moded, Mode, Call, Sends, Enter, Leave, Local, Seen}
+use Rattle.expr_tree.specs.declared.limits.Limits.{Limits}
+use Rattle.expr_tree.specs.declared.limits.Stop.{Stop}
+use Rattle.semantics.specs.Program.{Prog, Done, Stops, Quits, Ask, Within, Section, Open, Look, Put, Fresh, Turn, Check, Outer, Moded, Shown, Mode, Call, Sends, Enter, Leave, Local, Seen}
 use Rattle.semantics.specs.Pass.{pass}
-
-pub record Limits : Type 0 where
-  pub recursion : ℕ
-  pub iteration : ℕ
-  pub steps : ℕ
-  pub size : ℕ
-  pub depth : ℕ
 
 pub record State : Type 0 where
   pub definitions : Definitions
@@ -29,14 +25,14 @@ pub record State : Type 0 where
 -- with a value, a stop, Quit, a call that was answered by Closed, or one that found no memory
 pub data End : Type 0 where
   Value : Tree → End
-  Stopped : Cause → End
+  Stopped : Stop → End
   Quit : End
   Closed : End
   Starved : End
 
 pub data Reply : Type 0 where
   Replied : Tree → Reply
-  Halted : Cause → Reply
+  Halted : Stop → Reply
   Shut : Reply
   Lacking : Reply
 
@@ -66,22 +62,22 @@ after p k = ending p (on_value k)
 -- ---- the limits
 
 -- of Size and Depth the first that is passed
-abbrev pub first_cause : Bool → Bool → Option Cause
-first_cause true deep = Some Cause.Size
-first_cause false true = Some Cause.Depth
+abbrev pub first_cause : Bool → Bool → Option Stop
+first_cause true deep = Some Stop.Size
+first_cause false true = Some Stop.Depth
 first_cause false false = None
 
-abbrev pub too_large : Limits → Tree → Option Cause
+abbrev pub too_large : Limits → Tree → Option Stop
 too_large limits e = first_cause (ltb limits.size (size e)) (ltb limits.depth (depth e))
 
-abbrev pub unless_stopped : Option Cause → State → (State → Play) → Play
+abbrev pub unless_stopped : Option Stop → State → (State → Play) → Play
 unless_stopped None s k = k s
 unless_stopped (Some cause) s k = Over (Stopped cause) s
 
 -- one step more, where the limit leaves one
 abbrev pub stepped : Bool → State → (State → Play) → Play
 stepped true s k = k (record s { steps = s.steps + 1 })
-stepped false s k = Over (Stopped Cause.Steps) s
+stepped false s k = Over (Stopped Stop.Steps) s
 
 abbrev pub with_step : Limits → State → (State → Play) → Play
 with_step limits s k = stepped (ltb s.steps limits.steps) s k
@@ -172,7 +168,7 @@ abbrev pub after_number : Definitions → Definitions
 after_number d = record d { module_number = d.module_number + 1 }
 
 abbrev pub if_number_left : Bool → State → (ℕ → State → Play) → Play
-if_number_left true s k = Over (Stopped Cause.Range) s
+if_number_left true s k = Over (Stopped Stop.Range) s
 if_number_left false s k = k s.definitions.module_number (with_definitions (after_number s.definitions) s)
 
 abbrev pub numbered : State → (ℕ → State → Play) → Play
@@ -180,8 +176,10 @@ numbered s k = if_number_left (s.definitions.module_number == last_number) s k
 
 -- ---- programs
 
+-- what does not change: `shown` is the text of a value as an Out line shows it
 pub record Setting : Type 0 where
   pub names : Names
+  pub shown : Tree → List ℕ
   pub mode : Mode
   pub kernel : ℕ
   pub limits : Limits
@@ -191,8 +189,8 @@ now_used s = record s { used = true }
 
 abbrev pub run : Setting → Evaluator → Prog → State → Play
 run set ev (Done e) s = Over (Value e) s
-run set ev (Stop cause) s = Over (Stopped cause) s
-run set ev Leaves s = Over Quit s
+run set ev (Stops cause) s = Over (Stopped cause) s
+run set ev Quits s = Over Quit s
 run set ev (Ask e k) s = after (ev e s) (λ v t. run set ev (k v) t)
 run set ev (Within ls e k) s = ending (ev e (with_locals set.names ls s)) (leaving_locals set.names s.definitions ls (λ v t. run set ev (k v) t))
 run set ev (Section locks e k) s =
@@ -208,12 +206,13 @@ run set ev (Turn p) s = with_step set.limits s (λ t. run set ev p t)
 run set ev (Check e p) s = unless_stopped (too_large set.limits e) s (λ t. run set ev p t)
 run set ev (Outer c k) s = calling (Sends c) s (λ v t. run set ev (k v) t)
 run set ev (Moded k) s = run set ev (k set.mode set.kernel) (now_used s)
+run set ev (Shown k) s = run set ev (k set.shown) s
 
 -- ---- the fixed point
 
 -- a pass that changes its expression is a step
 abbrev pub changed : Setting → ℕ → Evaluator → Evaluator
-changed set zero again v s = Over (Stopped Cause.Iteration) s
+changed set zero again v s = Over (Stopped Stop.Iteration) s
 changed set (suc left) again v s = with_step set.limits s (again v)
 
 -- the same expression ends it
@@ -227,12 +226,12 @@ judged set left again e v s = unless_stopped (too_large set.limits v) s (λ t. s
 
 -- passes until one changes nothing, with so many changing passes left
 abbrev pub passes : Setting → Evaluator → ℕ → Evaluator
-passes set ev zero e s = after (run set ev (pass set.names e) s) (judged set zero (λ v t. Over (Stopped Cause.Iteration) t) e)
+passes set ev zero e s = after (run set ev (pass set.names e) s) (judged set zero (λ v t. Over (Stopped Stop.Iteration) t) e)
 passes set ev (suc left) e s = after (run set ev (pass set.names e) s) (judged set (suc left) (λ v t. passes set ev left v t) e)
 
 -- with so many nested evaluations left
 abbrev pub eval_at : Setting → ℕ → Evaluator
-eval_at set zero e s = Over (Stopped Cause.Recursion) s
+eval_at set zero e s = Over (Stopped Stop.Recursion) s
 eval_at set (suc left) e s = passes set (λ f t. eval_at set left f t) set.limits.iteration e s
 
 -- a whole evaluation, with fresh limits

@@ -1,9 +1,10 @@
 -- What an evaluation can do besides computing: a pass, a row of the built-in table and the trial of a rule are programs over these few effects.
 -- A program says nothing of the definitions, limits, mode and calls that it meets; `Play` gives it its meaning.
 use Rattle.std.specs.Prelude.{ℕ, List, [], ◌∷◌, Option}
-use Rattle.semantics.specs.Tree.{Sym, Tree}
+use Rattle.expr_tree.specs.declared.sym.Sym.{Sym}
+use Rattle.expr_tree.specs.Tree.{Tree}
 use Rattle.semantics.specs.Definitions.{Definition, Share}
-use Rattle.semantics.specs.declared.Cause.{Cause}
+use Rattle.expr_tree.specs.declared.limits.Stop.{Stop}
 
 pub data Mode : Type 0 where
   Cell Item Service : Mode
@@ -34,8 +35,8 @@ pub record Seen : Type 0 where
 pub data Prog : Type 0 where
   -- the result; a stop; the end of the kernel
   Done : Tree → Prog
-  Stop : Cause → Prog
-  Leaves : Prog
+  Stops : Stop → Prog
+  Quits : Prog
   -- evaluate an expression one deeper, and go on with its value
   Ask : Tree → (Tree → Prog) → Prog
   -- the same with locals put by, and put back however it ends
@@ -57,6 +58,8 @@ pub data Prog : Type 0 where
   Outer : Request → (Tree → Prog) → Prog
   -- a row of the mode table, or a use of a shared symbol: mode and kernel matter from here on
   Moded : (Mode → ℕ → Prog) → Prog
+  -- go on with the text of each value, as an Out line shows it
+  Shown : ((Tree → List ℕ) → Prog) → Prog
 
 -- the definitions of several symbols, in order
 abbrev pub look_all : List Sym → (List (Sym × Definition) → Prog) → Prog

@@ -1,12 +1,13 @@
 -- Replacing, and the rows that ask whether a pattern matches.
 use Rattle.std.specs.Prelude.{ℕ, zero, suc, List, [], ◌∷◌, reverse, pos, true, false, ◌||◌, Option, Some, None}
-use Rattle.semantics.specs.Tree.{Tree, integer, string, symbol, normal, Trees, nil, cons, elements, call, same}
+use Rattle.expr_tree.specs.Tree.{Tree, integer, string, symbol, normal, Trees, nil, cons, elements, call}
+use Rattle.expr_tree.specs.Order.{same}
 use Rattle.semantics.specs.Builtin.{Builtin}
 use Rattle.semantics.specs.Names.{Names, is_call, items_of, truth}
 use Rattle.semantics.specs.Rule.{Rule}
 use Rattle.semantics.specs.Attempt.{try_rules}
-use Rattle.semantics.specs.Program.{Prog, Done, Stop, Turn, Check}
-use Rattle.semantics.specs.declared.Cause.{Cause}
+use Rattle.semantics.specs.Program.{Prog, Done, Stops, Turn, Check}
+use Rattle.expr_tree.specs.declared.limits.Stop.{Stop}
 
 abbrev pub rule_in : List Tree → Option Rule
 rule_in (l ∷ r ∷ []) = Some (record { left = l; right = r })
@@ -43,7 +44,7 @@ replace_all names stay _ = stay
 
 -- rounds until one changes nothing; each is a turn, and after 4096 that all change something it stops
 abbrev pub rounds : Names → List Rule → ℕ → Tree → Prog
-rounds names rs zero e = Turn (replaced names rs e (λ f. Check f (elim (same f e) [ true ↦ Done f | false ↦ Stop Cause.Iteration ])))
+rounds names rs zero e = Turn (replaced names rs e (λ f. Check f (elim (same f e) [ true ↦ Done f | false ↦ Stops Stop.Iteration ])))
 rounds names rs (suc n) e = Turn (replaced names rs e (λ f. Check f (elim (same f e) [ true ↦ Done f | false ↦ rounds names rs n f ])))
 
 abbrev pub replace_repeated : Names → Prog → List Tree → Prog

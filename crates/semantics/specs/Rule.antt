@@ -4,7 +4,8 @@
 --     insert, remove             a rule put into a list of rules; the rules with a left side taken out
 use Rattle.std.specs.Prelude.{ℕ, ◌+◌, ◌-◌, List, [], ◌∷◌, length, Bool, true, false, ◌&&◌, ◌||◌}
 use Rattle.std.specs.declared.cmp.Ordering.TheVariants.{Greater}
-use Rattle.semantics.specs.Tree.{Tree, integer, string, symbol, normal, Trees, nil, cons, same, text_cmp}
+use Rattle.expr_tree.specs.Tree.{Tree, integer, string, symbol, normal, Trees, nil, cons}
+use Rattle.expr_tree.specs.Order.{same, text_cmp}
 use Rattle.semantics.specs.Builtin.{Builtin}
 use Rattle.semantics.specs.Names.{Names, is_name, is_call, items_of}
 

@@ -1,6 +1,7 @@
 -- Module, Block and With, and the application of a Function.
 use Rattle.std.specs.Prelude.{ℕ, ◌==◌, List, [], ◌∷◌, ◌++◌, Bool, true, false, ◌&&◌, ◌||◌, not, Option, Some, None}
-use Rattle.semantics.specs.Tree.{Sym, Tree, symbol}
+use Rattle.expr_tree.specs.declared.sym.Sym.{Sym}
+use Rattle.expr_tree.specs.Tree.{Tree, symbol}
 use Rattle.semantics.specs.Builtin.{Builtin}
 use Rattle.semantics.specs.Names.{Names, is_call, items_of}
 use Rattle.semantics.specs.Binding.{Binding, among, put_in_place, fill_slots}

@@ -1,11 +1,12 @@
 -- The mode table: what the parallel forms, sections, Quit and accesses of shared symbols do in a cell, in an item and in a service.
-use Rattle.std.specs.Prelude.{List, [], ◌∷◌, length, leb, Bool, true, false, ◌&&◌, ◌||◌, not, Option, Some, None}
-use Rattle.semantics.specs.Tree.{Sym, Tree, integer, string, symbol, normal, Trees, nil, cons, call}
+use Rattle.std.specs.Prelude.{ℕ, List, [], ◌∷◌, ◌++◌, length, leb, Bool, true, false, ◌&&◌, ◌||◌, not, Option, Some, None, is_some}
+use Rattle.expr_tree.specs.declared.sym.Sym.{Sym}
+use Rattle.expr_tree.specs.Tree.{Tree, integer, string, symbol, normal, Trees, nil, cons, call}
 use Rattle.semantics.specs.Builtin.{Builtin}
 use Rattle.semantics.specs.Names.{Names, is_name, is_call, items_of, make}
 use Rattle.semantics.specs.Definitions.{Share, Variable, Function, has}
-use Rattle.semantics.specs.Program.{Prog, Done, Ask, Section, Open, Look, Leaves, Outer, Moded, Cell, Item, Service, Access, Outside}
-use Rattle.semantics.specs.Control.{failed, applied, iterator}
+use Rattle.semantics.specs.Program.{Prog, Done, Ask, Section, Open, Look, Quits, Outer, Moded, Shown, Cell, Item, Service, Access, Print, Outside}
+use Rattle.semantics.specs.Control.{failed, null, applied, iterator}
 use Rattle.semantics.specs.Scoping.{symbols_in}
 
 -- without locks there is no section
@@ -25,7 +26,7 @@ critical_section names stay (locks ∷ body ∷ []) =
 critical_section names stay _ = stay
 
 abbrev pub quit : Names → Prog → List Tree → Prog
-quit names stay [] = Moded (λ mode kernel. elim mode [ Item ↦ Leaves | _ ↦ failed names ])
+quit names stay [] = Moded (λ mode kernel. elim mode [ Item ↦ Quits | _ ↦ failed names ])
 quit names stay _ = stay
 
 -- a form that is one call in a cell outside a section, and `inside` else
@@ -140,9 +141,36 @@ abbrev pub wait_all : Names → Prog → List Tree → Prog
 wait_all names stay (e ∷ []) = outside_or (outer names Builtin.WaitAll (e ∷ [])) (elim (has_object names e) [ true ↦ failed names | false ↦ Done e ])
 wait_all names stay _ = stay
 
-abbrev pub outside_only : Names → Builtin → Prog → List Tree → Prog
-outside_only names form stay es =
-    Moded (λ mode kernel. elim mode [ Cell ↦ Outer (Outside (make names form es)) Done | _ ↦ failed names ])
+-- ParallelSubmit, DistributeDefinitions and sharing: one call in a cell, also inside a section, and elsewhere they fail
+abbrev pub outside_only : Names → Builtin → Bool → Prog → List Tree → Prog
+outside_only names form false stay es = stay
+outside_only names form true stay es =
+    Moded (λ mode kernel. elim mode [ Cell ↦ outer names form es | _ ↦ failed names ])
+
+abbrev pub are_symbols : List Tree → Bool
+are_symbols es = is_some (symbols_in es)
+
+-- ParallelSubmit[e], or ParallelSubmit[{x, ..}, e] with symbols
+abbrev pub is_submission : Names → List Tree → Bool
+is_submission names (e ∷ []) = true
+is_submission names (x ∷ e ∷ []) = is_call names Builtin.List x && are_symbols (items_of x)
+is_submission names _ = false
+
+abbrev pub parallel_submit : Names → Prog → List Tree → Prog
+parallel_submit names stay es = outside_only names Builtin.ParallelSubmit (is_submission names es) stay es
+
+-- the forms whose elements are symbols
+abbrev pub of_symbols : Names → Builtin → Prog → List Tree → Prog
+of_symbols names form stay es = outside_only names form (are_symbols es) stay es
+
+-- Print: a text as its own bytes, any other value as an Out line shows it, one after the other
+abbrev pub printed : (Tree → List ℕ) → List Tree → List ℕ
+printed shown [] = []
+printed shown (string t ∷ es) = t ++ printed shown es
+printed shown (e ∷ es) = shown e ++ printed shown es
+
+abbrev pub print : Names → List Tree → Prog
+print names es = Moded (λ mode kernel. Shown (λ shown. Outer (Print (printed shown es)) (λ v. null names)))
 
 -- the rows that are accesses where their first item is a shared variable; of these the first three also where it is f[..] for a shared function f
 abbrev pub changes_value : Names → Tree → Bool

@@ -1,7 +1,9 @@
 -- What splicing, stripping, flattening, threading and sorting do with the items of an expression.
 --     splice, strip, flatten, thread, ordered      Sequence, Unevaluated, Flat, Listable, Orderless
 use Rattle.std.specs.Prelude.{ℕ, zero, suc, List, [], ◌∷◌, ◌++◌, length, Bool, true, false, cond, Option, ◌==◌, ◌&&◌, Some, None}
-use Rattle.semantics.specs.Tree.{Sym, Tree, symbol, normal, Trees, nil, cons, trees, call, tree_cmp, same_symbol}
+use Rattle.expr_tree.specs.declared.sym.Sym.{Sym}
+use Rattle.expr_tree.specs.Tree.{Tree, symbol, normal, Trees, nil, cons, trees, call}
+use Rattle.expr_tree.specs.Order.{tree_cmp, same_symbol}
 use Rattle.std.specs.Ordering.{is_le}
 use Rattle.semantics.specs.Builtin.{Builtin}
 use Rattle.semantics.specs.Names.{Names, is_call, items_of, make}

@@ -1,6 +1,6 @@
 -- The rows of the built-in table, one equation each. `stay` is the program of an expression whose shape has no equation.
 use Rattle.std.specs.Prelude.{pos, negsuc, int_lt, int_le, List, [], ◌∷◌, true, false}
-use Rattle.semantics.specs.Tree.{Tree, normal, elements}
+use Rattle.expr_tree.specs.Tree.{Tree, normal, elements}
 use Rattle.semantics.specs.Builtin.{Builtin}
 use Rattle.semantics.specs.Names.{Names, is_name, is_call, make, truth}
 use Rattle.semantics.specs.Worked.{Worked, Stays, Gives, TooWide}
@@ -11,10 +11,11 @@ use Rattle.semantics.specs.Scoping.{with_locals, module_form, block_form, with_f
 use Rattle.semantics.specs.Changes.{set, set_delayed, tag_set, tag_set_delayed, unset, step_by, change_with, subtract_from, old_value, new_value, clear, clear_all, change_attributes, with_attributes, without_attributes, protect, attributes_row}
 use Rattle.semantics.specs.Replace.{replace_all, replace_repeated, match_q, member_q, cases, count_row, free_q}
 use Rattle.semantics.specs.Lists as Lists
+use Rattle.semantics.specs.Strings.{string_join, string_length, characters, string_reverse}
 use Rattle.semantics.specs.Assign.{ToHead, ToItems}
-use Rattle.semantics.specs.Sections.{critical_section, quit, parallel_map, parallel_loop, parallel_combine, parallel_try, outside_only, outside_or_failed, wait_all}
-use Rattle.semantics.specs.Program.{Prog, Done, Stop}
-use Rattle.semantics.specs.declared.Cause.{Cause}
+use Rattle.semantics.specs.Sections.{critical_section, quit, parallel_map, parallel_loop, parallel_combine, parallel_try, parallel_submit, of_symbols, outside_or_failed, wait_all, print}
+use Rattle.semantics.specs.Program.{Prog, Done, Stops}
+use Rattle.expr_tree.specs.declared.limits.Stop.{Stop}
 
 abbrev pub ordered_q : Names → List Tree → Worked
 ordered_q names (normal h es ∷ []) = Gives (truth names (Lists.in_order (elements es)))
@@ -80,16 +81,16 @@ worked names Builtin.Partition = Lists.partition
 worked names Builtin.Transpose = Lists.transpose names
 worked names Builtin.ConstantArray = Lists.constant_array names
 worked names Builtin.Array = Lists.array names
-worked names Builtin.StringJoin = Lists.string_join
-worked names Builtin.StringLength = Lists.string_length
-worked names Builtin.Characters = Lists.characters names
-worked names Builtin.StringReverse = Lists.string_reverse
+worked names Builtin.StringJoin = string_join
+worked names Builtin.StringLength = string_length
+worked names Builtin.Characters = characters names
+worked names Builtin.StringReverse = string_reverse
 worked names _ = λ es. Stays
 
 abbrev pub as_program : Prog → Worked → Prog
 as_program stay Stays = stay
 as_program stay (Gives e) = Done e
-as_program stay TooWide = Stop Cause.Range
+as_program stay TooWide = Stops Stop.Range
 
 abbrev pub row : Names → Builtin → Prog → List Tree → Prog
 row names Builtin.CompoundExpression stay = in_turn stay
@@ -151,8 +152,9 @@ row names Builtin.WaitAll stay = wait_all names stay
 row names Builtin.CriticalSection stay = critical_section names stay
 row names Builtin.Quit stay = quit names stay
 row names Builtin.ParallelMap stay = parallel_map names stay
-row names Builtin.ParallelSubmit stay = outside_only names Builtin.ParallelSubmit stay
-row names Builtin.DistributeDefinitions stay = outside_only names Builtin.DistributeDefinitions stay
-row names Builtin.SetSharedVariable stay = outside_only names Builtin.SetSharedVariable stay
-row names Builtin.SetSharedFunction stay = outside_only names Builtin.SetSharedFunction stay
+row names Builtin.ParallelSubmit stay = parallel_submit names stay
+row names Builtin.DistributeDefinitions stay = of_symbols names Builtin.DistributeDefinitions stay
+row names Builtin.SetSharedVariable stay = of_symbols names Builtin.SetSharedVariable stay
+row names Builtin.SetSharedFunction stay = of_symbols names Builtin.SetSharedFunction stay
+row names Builtin.Print stay = print names
 row names r stay = λ es. as_program stay (worked names r es)

@@ -1,6 +1,7 @@
 -- The rows of comparison and logic, but for And and Or, which evaluate their items in turn.
 use Rattle.std.specs.Prelude.{ℤ, List, [], ◌∷◌, Bool, true, false, ◌&&◌, ◌||◌, not, Option, Some, None}
-use Rattle.semantics.specs.Tree.{Tree, integer, string, normal, same}
+use Rattle.expr_tree.specs.Tree.{Tree, integer, string, normal}
+use Rattle.expr_tree.specs.Order.{same}
 use Rattle.semantics.specs.Builtin.{Builtin}
 use Rattle.semantics.specs.Names.{Names, is_name, truth}
 use Rattle.semantics.specs.Worked.{Worked, Stays, Gives}

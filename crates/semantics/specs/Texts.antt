@@ -3,8 +3,8 @@
 --     names_of          the places and rows of a list of texts in the order of names
 use Rattle.std.specs.Prelude.{ℕ, zero, suc, List, [], ◌∷◌, true, false, Option, Some, None, codes}
 use Rattle.std.specs.Ordering.{is_eq}
-use Rattle.semantics.specs.Tree.{text_cmp}
-pub use Rattle.script_text.specs.Spelling.{place_in}
+use Rattle.expr_tree.specs.Order.{text_cmp}
+use Rattle.script_text.specs.Spelling.{place_in}
 use Rattle.semantics.specs.Builtin.{Builtin, rows}
 use Rattle.semantics.specs.Names.{Names}
 

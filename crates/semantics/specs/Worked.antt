@@ -1,7 +1,7 @@
 -- What a row of the built-in table makes of its items alone: nothing, an expression, or a number out of range.
 use Rattle.std.specs.Prelude.{ℤ, pos, negsuc, ◌^◌, Bool, true, false, ltb, List, [], ◌∷◌}
-pub use Rattle.expr_tree.specs.Limits.{in_range}
-use Rattle.semantics.specs.Tree.{Tree, integer}
+use Rattle.expr_tree.specs.Limits.{in_range}
+use Rattle.expr_tree.specs.Tree.{Tree, integer}
 
 pub data Worked : Type 0 where
   Stays : Worked

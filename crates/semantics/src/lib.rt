@@ -4,17 +4,6 @@
 ghost use Rattle.semantics.specs.Laws.{LooserKeeps, ModeIndependent, PutLaw};
 ghost use Rattle.semantics.specs.Opened.{SectionsInOrder};
 
-/// Why an evaluation stops. Where several limits would stop it at one place, the first of them is named.
-#[derive(Clone, Copy, PartialEq, Eq)]
-pub enum Cause {
-    Range,
-    Size,
-    Depth,
-    Iteration,
-    Steps,
-    Recursion,
-}
-
 /// Looser limits change no evaluation that ended with a value or at Quit.
 pub fn looser_limits_keep()
     ensures law { LooserKeeps }
