@@ -23,9 +23,10 @@ use Rattle.journal.specs.Entry.{Text, Wait, Event, Item, Handed, Posted}
 pub data Recovery : Type 0 where
   Retry Abandon : Recovery
 
--- `plan` holds a kernel and the number of its entry that is a loss
+-- what does not change in a run: `shown` is the text of a value as an Out line shows it; `plan` holds a kernel and the number of its entry that is a loss
 pub record Setup : Type 0 where
   pub names : Names
+  pub shown : Tree → Text
   pub kernels : ℕ
   pub limits : Limits
   pub recovery : Recovery
@@ -193,7 +194,7 @@ may_take set c k = lives c k
 -- ---- accesses
 
 abbrev pub in_mode : Setup → Mode → ℕ → Setting
-in_mode set mode kernel = record { names = set.names; mode = mode; kernel = kernel; limits = set.limits }
+in_mode set mode kernel = record { names = set.names; shown = set.shown; mode = mode; kernel = kernel; limits = set.limits }
 
 pub record Served : Type 0 where
   pub reply : Tree
@@ -201,13 +202,13 @@ pub record Served : Type 0 where
   pub lines : List Text
 
 -- what stands for an end that is no value
-abbrev pub shown : Names → End → Tree
-shown names (End.Value v) = v
-shown names _ = name names Builtin.Aborted
+abbrev pub value_for : Names → End → Tree
+value_for names (End.Value v) = v
+value_for names _ = name names Builtin.Aborted
 
 -- an evaluation in mode Service: each count is answered, and each print adds a line
 abbrev pub served : Names → ℕ → Play → List Text → Served
-served names live (Over end s) lines = record { reply = shown names end; definitions = s.definitions; lines = lines }
+served names live (Over end s) lines = record { reply = value_for names end; definitions = s.definitions; lines = lines }
 served names live (Calls (Call.Sends Request.Count) s k) lines = served names live (k (Reply.Replied (integer (pos live))) s.definitions) lines
 served names live (Calls (Call.Sends (Request.Print t)) s k) lines = served names live (k (Reply.Replied (name names Builtin.Null)) s.definitions) (lines ++ t ∷ [])
 served names live (Calls c s k) lines = served names live (k Reply.Shut s.definitions) lines

@@ -8,7 +8,7 @@ use Rattle.semantics.specs.Program.{Mode}
 use Rattle.semantics.specs.Play.{End}
 use Rattle.semantics.specs.Eval.{Outcome, Evaluation, eval}
 use Rattle.journal.specs.Closure.{bundle, install, symbols_of}
-use Rattle.journal.specs.Core.{Setup, in_mode, shown}
+use Rattle.journal.specs.Core.{Setup, in_mode, value_for}
 
 -- the definitions of a kernel that knows the bundle alone
 abbrev pub bare : Setup → Definitions → Tree → Definitions
@@ -31,7 +31,7 @@ Quiet set d (a ∷ as') = IsQuiet set d a × Quiet set d as'
 
 -- the value of an evaluation that has one
 abbrev pub ended_value : Names → Outcome → Tree
-ended_value names (Outcome.Ended end) = shown names end
+ended_value names (Outcome.Ended end) = value_for names end
 ended_value names _ = name names Builtin.Aborted
 
 abbrev pub alone : Setup → Definitions → List Tree → List Tree

@@ -40,7 +40,7 @@ equals s t = of Builtin.Set (s ∷ t ∷ [])
 
 -- with so many kernels and a plan of losses
 abbrev pub setup : ℕ → List (ℕ × ℕ) → Setup
-setup kernels plan = record { names = names; kernels = kernels; limits = product_limits; recovery = Retry; plan = plan }
+setup kernels plan = record { names = names; shown = λ e. []; kernels = kernels; limits = product_limits; recovery = Retry; plan = plan }
 
 abbrev pub by : ℕ → Event → Entry
 by k event = record { kernel = k; event = event }
