@@ -8,3 +8,4 @@ pub mod Forms
 pub mod Run
 pub mod Spans
 pub mod Quiet
+pub mod Lines

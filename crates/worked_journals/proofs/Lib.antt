@@ -7,3 +7,4 @@ mod Bundles
 mod Cuts
 mod Quiet
 mod Events
+mod Texts
