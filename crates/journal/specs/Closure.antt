@@ -94,25 +94,29 @@ reach_of names d r ss = record { symbols = put_symbols ss r.symbols; table = r.t
 abbrev pub is_followed : Names → Definitions → Reach → Sym → Bool
 is_followed names d r s = reaches names r s && not (is_shared d s)
 
-abbrev pub set_aside : Sym × Definition → Option ((Sym × Definition) × List (Sym × Definition)) → Option ((Sym × Definition) × List (Sym × Definition))
-set_aside e None = None
-set_aside e (Some p) = Some (p.0, e ∷ p.1)
+abbrev pub set_aside : Sym → Option (Sym × List Sym) → Option (Sym × List Sym)
+set_aside s None = None
+set_aside s (Some p) = Some (p.0, s ∷ p.1)
 
--- the first of these entries whose definition has to be followed, and the others
-abbrev pub next_followed : Names → Definitions → Reach → List (Sym × Definition) → Option ((Sym × Definition) × List (Sym × Definition))
+-- the first of these symbols whose definition has to be followed, and the others
+abbrev pub next_followed : Names → Definitions → Reach → List Sym → Option (Sym × List Sym)
 next_followed names d r [] = None
-next_followed names d r (e ∷ es) = elim (is_followed names d r e.0) [ true ↦ Some (e, es) | false ↦ set_aside e (next_followed names d r es) ]
+next_followed names d r (s ∷ ss) = elim (is_followed names d r s) [ true ↦ Some (s, ss) | false ↦ set_aside s (next_followed names d r ss) ]
 
--- each definition is followed at most once, so there are no more turns than entries
-abbrev pub grown : ℕ → Names → Definitions → List (Sym × Definition) → Reach → Reach
-grown zero names d entries r = r
-grown (suc n) names d entries r = elim (next_followed names d r entries) [ None ↦ r | Some p ↦ grown n names d p.1 (reach_of names d r (symbols_of_definition (p.0).1)) ]
+-- the definition of each of these symbols is followed at most once, so there are no more turns than symbols
+abbrev pub grown : ℕ → Names → Definitions → List Sym → Reach → Reach
+grown zero names d ss r = r
+grown (suc n) names d ss r = elim (next_followed names d r ss) [ None ↦ r | Some p ↦ grown n names d p.1 (reach_of names d r (stored_symbols d p.0)) ]
+
+-- the symbols that have a definition of their own
+abbrev pub defined : Definitions → List Sym
+defined d = map (λ e. e.0) d.entries
 
 abbrev pub nothing_reached : Reach
 nothing_reached = record { symbols = []; table = false }
 
 abbrev pub closure : Names → Definitions → List Sym → Reach
-closure names d seeds = grown (length d.entries) names d d.entries (reach_of names d nothing_reached (seeds ++ d.named))
+closure names d seeds = grown (length (defined d)) names d (defined d) (reach_of names d nothing_reached (seeds ++ d.named))
 
 -- its members in order
 abbrev pub members : Names → Reach → List Sym

@@ -10,3 +10,5 @@ mod Unique
 mod Steps
 mod Attempts
 mod Views
+mod Closed
+mod Cutting

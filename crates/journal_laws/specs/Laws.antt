@@ -1,9 +1,14 @@
 -- Statements over all journals.
-use Rattle.std.specs.Prelude.{◌≡◌, ℕ, ◌≤◌, List, [], ◌∷◌, ◌++◌, length, true, Option, Some, None, suc}
+use Rattle.std.specs.Prelude.{◌≡◌, ℕ, zero, suc, ◌≤◌, List, [], ◌∷◌, ◌++◌, length, Bool, true, false, Option, Some, None}
+use Rattle.expr_tree.specs.declared.sym.Sym.{Sym}
+use Rattle.expr_tree.specs.Tree.{Tree}
+use Rattle.semantics.specs.Names.{Names}
 use Rattle.semantics.specs.Definitions.{Definitions}
 use Rattle.semantics.specs.Program.{Request, Call}
 use Rattle.semantics.specs.Play.{Play}
 use Rattle.journal.specs.Table.{member}
+use Rattle.journal.specs.Closure.{InClosure, reaches, closure}
+use Rattle.journal.specs.Cuts.{Method, Per, cut}
 use Rattle.journal.specs.Entry.{Wait, Event, Entry, Posted}
 use Rattle.journal.specs.Core.{Setup, Core, start, allowed, step, replay, attempt_of, status_of, runs_or_dropped}
 use Rattle.journal.specs.Follow.{View, Phase, Free, At, Lost, watch, kernel_run}
@@ -83,3 +88,32 @@ Matches Lost o = o ≡ None
 abbrev pub PhaseIsAttempt : Type 0
 PhaseIsAttempt =
     (set : Setup) (k : ℕ) (ps : List Posted) (c : Core) (v : View) → suc k ≤ set.kernels → replay set ps ≡ Some c → kernel_run set (suc k) ps ≡ Some v → Matches v.phase (attempt_of c (suc k))
+
+-- ---- what an item takes with it
+
+-- the computed closure is the least closed set
+abbrev pub ClosureIsLeast : Type 0
+ClosureIsLeast =
+    (names : Names) (d : Definitions) (seeds : List Sym) (s : Sym)
+    → (reaches names (closure names d seeds) s ≡ true → InClosure names d seeds s) × (InClosure names d seeds s → reaches names (closure names d seeds) s ≡ true)
+
+-- ---- chunks
+
+-- each method cuts, but for chunks of none
+abbrev pub is_usable : Method → Bool
+is_usable (Per zero) = false
+is_usable _ = true
+
+abbrev pub chunks_joined : List (List Tree) → List Tree
+chunks_joined [] = []
+chunks_joined (c ∷ cs) = c ++ chunks_joined cs
+
+abbrev pub NoneEmpty : List (List Tree) → Type 0
+NoneEmpty [] = Unit {0}
+NoneEmpty (c ∷ cs) = (1 ≤ length c) × NoneEmpty cs
+
+-- the chunks of a list are its elements in order, and none of them is empty
+abbrev pub CutsPartition : Type 0
+CutsPartition =
+    (method : Method) (kernels : ℕ) (es : List Tree) → is_usable method ≡ true
+    → (chunks_joined (cut method kernels es) ≡ es) × NoneEmpty (cut method kernels es)

@@ -1,7 +1,7 @@
 //! Laws of journals. Each function here has no code: its contract is a law.
 #![tactic(auto)]
 
-ghost use Rattle.journal_laws.specs.Laws.{SectionsApart, OneResult, AllHaveResults, RunGrows, LegalReplays, OneJournal, EntryByEntry, AttemptsAgree, PhaseIsAttempt};
+ghost use Rattle.journal_laws.specs.Laws.{SectionsApart, OneResult, AllHaveResults, RunGrows, LegalReplays, OneJournal, EntryByEntry, AttemptsAgree, PhaseIsAttempt, ClosureIsLeast, CutsPartition};
 
 /// Two sections that share a lock never overlap, in whatever is a replay.
 pub fn sections_never_overlap()
@@ -46,4 +46,14 @@ pub fn attempts_agree_with_items()
 /// A kernel that follows its evaluations has, in the core, the attempt that it is in.
 pub fn phase_is_the_attempt()
     ensures law { PhaseIsAttempt }
+{}
+
+/// What `closure` computes is the least closed set.
+pub fn closure_is_least()
+    ensures law { ClosureIsLeast }
+{}
+
+/// The chunks of a list are its elements in order, and none of them is empty.
+pub fn cuts_partition_the_list()
+    ensures law { CutsPartition }
 {}
