@@ -5,3 +5,5 @@ pub mod Falls
 pub mod Limits
 pub mod Same
 pub mod Order
+pub mod Shapes
+pub mod Substitution

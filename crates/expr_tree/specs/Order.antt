@@ -1,11 +1,12 @@
 -- The canonical order: integers, then strings, then symbols, then normal expressions.
-use Rattle.std.specs.Prelude.{Bool, ℕ, List, [], ◌∷◌}
-use Rattle.std.specs.Ordering.{nat_cmp, int_cmp, ordering_then, is_lt, is_eq}
+use Rattle.std.specs.Prelude.{Bool, ℕ, List}
+use Rattle.std.specs.Ordering.{nat_cmp, int_cmp, ordering_then, is_lt}
 use Rattle.std.specs.Cmp.Lexicographic.{slice_cmp}
 use Rattle.std.specs.declared.cmp.Ordering.{Ordering}
 use Rattle.std.specs.declared.cmp.Ordering.TheVariants.{Less, Equal, Greater}
 use Rattle.expr_tree.specs.Tree.{Tree, Trees, integer, string, symbol, normal, nil, cons, count}
 use Rattle.expr_tree.specs.declared.sym.Sym.{Sym}
+use Rattle.expr_tree.specs.Same.{symbol_eq, tree_eq}
 
 -- texts by their bytes, a prefix first
 abbrev pub text_cmp : List ℕ → List ℕ → Ordering
@@ -40,7 +41,7 @@ comes_before a b = is_lt (tree_cmp a b)
 
 -- whether two expressions, or two symbols, are identical
 abbrev pub same : Tree → Tree → Bool
-same a b = is_eq (tree_cmp a b)
+same = tree_eq
 
 abbrev pub same_symbol : Sym → Sym → Bool
-same_symbol a b = is_eq (symbol_cmp a b)
+same_symbol = symbol_eq

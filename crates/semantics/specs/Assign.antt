@@ -8,7 +8,7 @@ use Rattle.expr_tree.specs.declared.sym.Sym.{Sym}
 use Rattle.expr_tree.specs.Tree.{Tree, integer, string, symbol, normal, Trees, nil, cons}
 use Rattle.semantics.specs.Builtin.{Builtin}
 use Rattle.semantics.specs.Names.{Names, is_name, is_call, items_of, symbol_of}
-use Rattle.semantics.specs.Binding.{among}
+use Rattle.expr_tree.specs.Substitution.{among}
 use Rattle.semantics.specs.Rule.{insert}
 use Rattle.semantics.specs.Definitions.{Definition}
 

@@ -5,7 +5,8 @@ use Rattle.expr_tree.specs.Tree.{Tree}
 use Rattle.expr_tree.specs.Order.{same_symbol}
 use Rattle.semantics.specs.Builtin.{Builtin}
 use Rattle.semantics.specs.Names.{Names, is_name}
-use Rattle.semantics.specs.Binding.{Binding, put_in_place}
+use Rattle.expr_tree.specs.Substitution.{Binding}
+use Rattle.semantics.specs.InPlace.{put_in_place}
 use Rattle.semantics.specs.Match.{Guard, Cond, Found, Matching, matches, heads, guard_expression}
 use Rattle.semantics.specs.Rule.{Rule, condition_of, result_of}
 use Rattle.semantics.specs.Definitions.{Definition, has}

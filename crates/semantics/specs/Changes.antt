@@ -44,11 +44,16 @@ attach_all names [] left right p = p
 attach_all names (t ∷ ts) left right p =
     Look t.symbol (λ seen. Put t.symbol (attached names t.place left right seen.definition) (attach_all names ts left right p))
 
--- left = right by one of the forms, where the left side's items are evaluated first
+-- whether something would be attached to a shared symbol; a tag that does not occur attaches nothing
+abbrev pub attaches_shared : List Target → List (Sym × Seen) → Bool
+attaches_shared [] seen = false
+attaches_shared (t ∷ ts) seen = any_shared seen
+
+-- left = right by one of the forms; the left side's items are evaluated
 abbrev pub assign : Names → Form → Tree → Tree → Prog → Prog
 assign names form left right p =
     see_all (asked_symbols form (places names form left)) (λ seen.
-    unless_item names (any_shared seen) (elim (refusal names (protected_in seen) form left) [
+    unless_item names (attaches_shared (places names form left) seen) (elim (refusal names (protected_in seen) form left) [
       | None ↦ attach_all names (places names form left) left right p
       | Some why ↦ failed names
     ]))
@@ -71,7 +76,7 @@ tag_set_delayed names stay _ = stay
 
 -- the symbols that may hold something with this left side
 abbrev pub holders : Names → Tree → List Sym
-holders names left = item_symbols (items_of (inner names left)) (symbol_of left)
+holders names left = item_symbols (items_of (inner names left)) (symbol_of (inner names left))
 
 abbrev pub holds : Tree → Definition → Bool
 holds (symbol s) d = is_some d.own

@@ -2,13 +2,14 @@
 --     Guard, Found             a test or a condition;  a binding with its guards, from left to right
 --     matches                  this list
 --     heads                    the symbols whose attributes the list depends on
-use Rattle.std.specs.Prelude.{ℕ, zero, suc, List, [], ◌∷◌, ◌++◌, map, length, Bool, true, false, ◌&&◌, ◌==◌, Some, None}
+use Rattle.std.specs.Prelude.{ℕ, zero, suc, List, [], ◌∷◌, ◌++◌, map, length, Bool, true, false, ◌&&◌, ◌==◌, leb, Some, None}
 use Rattle.expr_tree.specs.declared.sym.Sym.{Sym}
 use Rattle.expr_tree.specs.Tree.{Tree, integer, string, symbol, normal, Trees, nil, cons, elements, call, count}
 use Rattle.expr_tree.specs.Order.{same}
 use Rattle.semantics.specs.Builtin.{Builtin}
 use Rattle.semantics.specs.Names.{Names, is_name, head_of}
-use Rattle.semantics.specs.Binding.{Binding, value_of, put_in_place}
+use Rattle.expr_tree.specs.Substitution.{Binding, value_of}
+use Rattle.semantics.specs.InPlace.{put_in_place}
 
 pub data Guard : Type 0 where
   Test : Tree → Tree → Guard
@@ -103,7 +104,7 @@ kind names h =
 
 -- from the kind of a pattern, the number of its items, and whether the first and the second of them are single
 abbrev pub single_by : Kind → ℕ → Bool → Bool → Bool
-single_by blank n first second = true
+single_by blank n first second = leb n 1
 single_by pattern n first second = (n == 2) && second
 single_by test n first second = (n == 2) && first
 single_by condition n first second = (n == 2) && first
@@ -141,7 +142,7 @@ same_run (e ∷ es) (f ∷ fs) = elim (same e f) [ true ↦ same_run es fs | fal
 abbrev pub bind : Sym → List Tree → Found → List Found
 bind s run found =
     elim (value_of found.binding s) [
-      | None ↦ record { binding = found.binding ++ record { symbol = s; run = run } ∷ []; guards = found.guards } ∷ []
+      | None ↦ record { binding = found.binding ++ (s, run) ∷ []; guards = found.guards } ∷ []
       | Some old ↦ elim (same_run old run) [ true ↦ found ∷ [] | false ↦ [] ]
     ]
 

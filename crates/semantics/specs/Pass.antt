@@ -7,7 +7,7 @@ use Rattle.std.specs.Prelude.{pos, List, [], ◌∷◌, true, false, ◌&&◌, n
 use Rattle.expr_tree.specs.declared.sym.Sym.{Sym}
 use Rattle.expr_tree.specs.Tree.{Tree, integer, string, symbol, normal, elements, call}
 use Rattle.semantics.specs.Builtin.{Builtin}
-use Rattle.semantics.specs.Names.{Names, is_name, make, role_of, symbol_of}
+use Rattle.semantics.specs.Names.{Names, is_known, is_name, make, role_of, symbol_of}
 use Rattle.semantics.specs.Steps.{strip, has_wrapper}
 use Rattle.semantics.specs.Definitions.{Attributes, Share, Variable, Function, has}
 use Rattle.semantics.specs.Program.{Prog, Done, Look, Outer, Moded, Seen, Count}
@@ -66,19 +66,24 @@ later_steps names head a items =
           last_steps names a last (call head last) (Done (left_standing names a head items (call head last))) head
     ]
 
--- a symbol is replaced by its own value; in mode Item a shared variable is an access
-abbrev pub own_value : Sym → Seen → Prog
-own_value s seen = elim (seen.definition.own) [ None ↦ Done (symbol s) | Some v ↦ Done v ]
-
-abbrev pub symbol_pass : Names → Sym → Prog
-symbol_pass names s =
-    elim (is_name names Builtin.KernelID (symbol s)) [
+-- $KernelID and $KernelCount are rows of a symbol alone
+abbrev pub symbol_row : Names → Sym → Prog
+symbol_row names s =
+    elim (is_known names Builtin.KernelID s) [
       | true ↦ Moded (λ mode kernel. Done (integer (pos kernel)))
-      | false ↦ elim (is_name names Builtin.KernelCount (symbol s)) [
+      | false ↦ elim (is_known names Builtin.KernelCount s) [
         | true ↦ Moded (λ mode kernel. Outer Count Done)
-        | false ↦ Look s (λ seen. access_or seen.shared Variable (symbol s) (marked seen.shared (own_value s seen)))
+        | false ↦ Done (symbol s)
       ]
     ]
+
+-- a symbol is replaced by its own value, and has its row where it has none
+abbrev pub own_value : Names → Sym → Seen → Prog
+own_value names s seen = elim (seen.definition.own) [ None ↦ symbol_row names s | Some v ↦ Done v ]
+
+-- in mode Item a shared variable is an access
+abbrev pub symbol_pass : Names → Sym → Prog
+symbol_pass names s = Look s (λ seen. access_or seen.shared Variable (symbol s) (marked seen.shared (own_value names s seen)))
 
 abbrev pub pass : Names → Tree → Prog
 pass names (integer n) = Done (integer n)

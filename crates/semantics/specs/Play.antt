@@ -9,7 +9,7 @@ use Rattle.expr_tree.specs.Tree.{Tree, size, depth}
 use Rattle.expr_tree.specs.Order.{same}
 use Rattle.semantics.specs.Builtin.{Builtin}
 use Rattle.semantics.specs.Names.{Names, name}
-use Rattle.semantics.specs.Binding.{among}
+use Rattle.expr_tree.specs.Substitution.{among}
 use Rattle.semantics.specs.Definitions.{Definition, Definitions, definition_of, stored, shared_as, put}
 use Rattle.expr_tree.specs.declared.limits.Limits.{Limits}
 use Rattle.expr_tree.specs.declared.limits.Stop.{Stop}

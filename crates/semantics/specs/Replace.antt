@@ -51,17 +51,17 @@ abbrev pub replace_repeated : Names → Prog → List Tree → Prog
 replace_repeated names stay (e ∷ r ∷ []) = elim (rule_set names r) [ None ↦ stay | Some rs ↦ rounds names rs 4095 e ]
 replace_repeated names stay _ = stay
 
--- p as a rule, for the rows that ask whether it matches
-abbrev pub asks : Tree → List Rule
-asks p = record { left = p; right = p } ∷ []
+-- p as a rule, for the rows that ask whether it matches; the result says nothing
+abbrev pub asks : Names → Tree → List Rule
+asks names p = record { left = p; right = truth names true } ∷ []
 
 abbrev pub match_q : Names → Prog → List Tree → Prog
-match_q names stay (e ∷ p ∷ []) = try_rules names (asks p) e (λ v. Done (truth names true)) (Done (truth names false))
+match_q names stay (e ∷ p ∷ []) = try_rules names (asks names p) e (λ v. Done (truth names true)) (Done (truth names false))
 match_q names stay _ = stay
 
 abbrev pub member : Names → Tree → List Tree → Prog
 member names p [] = Done (truth names false)
-member names p (e ∷ es) = try_rules names (asks p) e (λ v. Done (truth names true)) (member names p es)
+member names p (e ∷ es) = try_rules names (asks names p) e (λ v. Done (truth names true)) (member names p es)
 
 abbrev pub member_q : Names → Prog → List Tree → Prog
 member_q names stay (normal h es ∷ p ∷ []) = member names p (elements es)
@@ -78,7 +78,7 @@ case_rule names p = elim (rule_of names p) [ None ↦ [] | Some r ↦ r ∷ [] ]
 -- h of the elements that match
 abbrev pub matching : Names → Tree → Tree → List Tree → List Tree → Prog
 matching names h p [] done = Done (call h (reverse done))
-matching names h p (e ∷ es) done = try_rules names (asks p) e (λ v. matching names h p es (e ∷ done)) (matching names h p es done)
+matching names h p (e ∷ es) done = try_rules names (asks names p) e (λ v. matching names h p es (e ∷ done)) (matching names h p es done)
 
 -- the head of the list is kept
 abbrev pub cases : Names → Prog → List Tree → Prog
@@ -89,7 +89,7 @@ cases names stay _ = stay
 -- how many elements match
 abbrev pub count_of : Names → Tree → List Tree → ℕ → Prog
 count_of names p [] n = Done (integer (pos n))
-count_of names p (e ∷ es) n = try_rules names (asks p) e (λ v. count_of names p es (suc n)) (count_of names p es n)
+count_of names p (e ∷ es) n = try_rules names (asks names p) e (λ v. count_of names p es (suc n)) (count_of names p es n)
 
 abbrev pub count_row : Names → Prog → List Tree → Prog
 count_row names stay (normal h es ∷ p ∷ []) = count_of names p (elements es) 0
@@ -98,10 +98,10 @@ count_row names stay _ = stay
 -- whether no part and no head matches
 abbrev mutual
   pub free : Names → Tree → Tree → Prog → Prog
-  free names p (integer n) k = try_rules names (asks p) (integer n) (λ v. Done (truth names false)) k
-  free names p (string t) k = try_rules names (asks p) (string t) (λ v. Done (truth names false)) k
-  free names p (symbol s) k = try_rules names (asks p) (symbol s) (λ v. Done (truth names false)) k
-  free names p (normal h es) k = try_rules names (asks p) (normal h es) (λ v. Done (truth names false)) (free names p h (free_items names p es k))
+  free names p (integer n) k = try_rules names (asks names p) (integer n) (λ v. Done (truth names false)) k
+  free names p (string t) k = try_rules names (asks names p) (string t) (λ v. Done (truth names false)) k
+  free names p (symbol s) k = try_rules names (asks names p) (symbol s) (λ v. Done (truth names false)) k
+  free names p (normal h es) k = try_rules names (asks names p) (normal h es) (λ v. Done (truth names false)) (free names p h (free_items names p es k))
 
   pub free_items : Names → Tree → Trees → Prog → Prog
   free_items names p nil k = k

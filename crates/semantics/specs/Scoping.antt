@@ -4,7 +4,8 @@ use Rattle.expr_tree.specs.declared.sym.Sym.{Sym}
 use Rattle.expr_tree.specs.Tree.{Tree, symbol}
 use Rattle.semantics.specs.Builtin.{Builtin}
 use Rattle.semantics.specs.Names.{Names, is_call, items_of}
-use Rattle.semantics.specs.Binding.{Binding, among, put_in_place, fill_slots}
+use Rattle.expr_tree.specs.Substitution.{Binding, among}
+use Rattle.semantics.specs.InPlace.{put_in_place, fill_slots}
 use Rattle.semantics.specs.Program.{Prog, Done, Ask, Within, Look, Put, Fresh, Moded, Local}
 use Rattle.semantics.specs.Control.{failed}
 
@@ -64,7 +65,7 @@ renamed m s = record { base = s.base; number = m }
 
 abbrev pub renaming : ℕ → List Local → Binding
 renaming m [] = []
-renaming m (l ∷ ls) = record { symbol = l.symbol; run = symbol (renamed m l.symbol) ∷ [] } ∷ renaming m ls
+renaming m (l ∷ ls) = (l.symbol, symbol (renamed m l.symbol) ∷ []) ∷ renaming m ls
 
 -- the locals with their new symbols
 abbrev pub with_number : ℕ → List Local → List Local
@@ -95,7 +96,7 @@ values_in [] = Some []
 values_in (l ∷ ls) =
     elim l.value [
       | None ↦ None
-      | Some v ↦ elim (values_in ls) [ None ↦ None | Some b ↦ Some (record { symbol = l.symbol; run = v ∷ [] } ∷ b) ]
+      | Some v ↦ elim (values_in ls) [ None ↦ None | Some b ↦ Some ((l.symbol, v ∷ []) ∷ b) ]
     ]
 
 abbrev pub with_form : Names → Prog → List Local → Tree → Prog
@@ -114,7 +115,7 @@ symbols_in (e ∷ es) = None
 abbrev pub paired : List Sym → List Tree → Option Binding
 paired [] args = Some []
 paired (s ∷ ss) [] = None
-paired (s ∷ ss) (e ∷ es) = elim (paired ss es) [ None ↦ None | Some b ↦ Some (record { symbol = s; run = e ∷ [] } ∷ b) ]
+paired (s ∷ ss) (e ∷ es) = elim (paired ss es) [ None ↦ None | Some b ↦ Some ((s, e ∷ []) ∷ b) ]
 
 abbrev pub parameters : Names → Tree → Option (List Sym)
 parameters names (symbol s) = Some (s ∷ [])
