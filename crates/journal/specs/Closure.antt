@@ -11,7 +11,7 @@ use Rattle.expr_tree.specs.Tree.{Tree, integer, string, symbol, normal, Trees, n
 use Rattle.expr_tree.specs.Order.{symbol_cmp}
 use Rattle.semantics.specs.Builtin.{rows}
 use Rattle.semantics.specs.Names.{Names, known, role_of}
-use Rattle.semantics.specs.Binding.{among}
+use Rattle.expr_tree.specs.Substitution.{among}
 use Rattle.semantics.specs.Rule.{Rule}
 use Rattle.semantics.specs.Definitions.{Definition, Definitions, Shared, shared_as, look_up, add_entry}
 use Rattle.journal.specs.Table.{is_some}

@@ -10,7 +10,7 @@ use Rattle.expr_tree.specs.Tree.{Tree, integer}
 use Rattle.expr_tree.specs.Order.{same}
 use Rattle.semantics.specs.Builtin.{Builtin}
 use Rattle.semantics.specs.Names.{Names, name, is_name, make}
-use Rattle.semantics.specs.Binding.{among}
+use Rattle.expr_tree.specs.Substitution.{among}
 use Rattle.semantics.specs.Definitions.{Definitions, empty, is_empty}
 use Rattle.semantics.specs.Program.{Mode, Request, Call}
 use Rattle.expr_tree.specs.declared.limits.Limits.{Limits}

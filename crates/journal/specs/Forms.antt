@@ -8,7 +8,8 @@ use Rattle.expr_tree.specs.Tree.{Tree, integer, string, symbol, normal, Trees, n
 use Rattle.expr_tree.specs.Order.{text_cmp}
 use Rattle.semantics.specs.Builtin.{Builtin}
 use Rattle.semantics.specs.Names.{Names, name, is_call, items_of, make, role_of}
-use Rattle.semantics.specs.Binding.{Binding, among, put_in_place}
+use Rattle.expr_tree.specs.Substitution.{Binding, among}
+use Rattle.semantics.specs.InPlace.{put_in_place}
 use Rattle.semantics.specs.Scoping.{symbols_in}
 use Rattle.semantics.specs.Definitions.{Definitions, Share, Variable, Function, Shared, has, shared_as, stored, definition_of}
 use Rattle.expr_tree.specs.declared.limits.Stop.{Stop}
@@ -174,7 +175,7 @@ submit_one set d e = unless_refused set d (e ∷ []) (Submits (Item.Plain e ∷ 
 abbrev pub present : Names → Definitions → List Sym → Binding
 present names d [] = []
 present names d (s ∷ ss) =
-    elim (stored names d s).own [ None ↦ present names d ss | Some v ↦ record { symbol = s; run = v ∷ [] } ∷ present names d ss ]
+    elim (stored names d s).own [ None ↦ present names d ss | Some v ↦ (s, v ∷ []) ∷ present names d ss ]
 
 abbrev pub submit_with : Setup → Definitions → Tree → Tree → Option (List Sym) → Form
 submit_with set d stay e None = gives d stay

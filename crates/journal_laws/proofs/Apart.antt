@@ -3,7 +3,7 @@ use Rattle.std.proofs.Common.{◌≡◌, refl, sym, subst, ◌∙◌, ℕ, zero,
 use Rattle.std.specs.Prelude.{◌&&◌, not, ◌==◌, ◌⊎◌}
 use Rattle.expr_tree.specs.declared.sym.Sym.{Sym}
 use Rattle.expr_tree.specs.Order.{same_symbol}
-use Rattle.semantics.specs.Binding.{among}
+use Rattle.expr_tree.specs.Substitution.{among}
 use Rattle.semantics.specs.Definitions.{is_empty}
 use Rattle.journal.specs.Table.{nth, change_at, is_some}
 use Rattle.journal.specs.Entry.{Event, Posted, Handed}
@@ -26,11 +26,11 @@ held_somewhere (x ∷ xs) (suc k) l h = or_right (among l x.locks) (held_by_some
 
 free_lock : (c : Core) (ls : List Sym) (l : Sym) → all_free c ls ≡ true → among l ls ≡ true → held_by_some c.kernels l ≡ false
 free_lock c [] l free h = absurd (true≢false (sym h))
-free_lock c (m ∷ ms) l free h = go (same_symbol l m) refl h (λ h'. free_lock c ms l (both _ _ free).1 h')
-  where
-    go : (b : Bool) → same_symbol l m ≡ b → elim b [ true ↦ true | false ↦ among l ms ] ≡ true → (among l ms ≡ true → held_by_some c.kernels l ≡ false) → held_by_some c.kernels l ≡ false
-    go true e h' next = subst (λ s. held_by_some c.kernels s ≡ false) (sym (same_symbol-eq l m e)) (is_not _ (both (not (held_by_some c.kernels m)) _ free).0)
-    go false e h' next = next h'
+free_lock c (m ∷ ms) l free h =
+    elim (either (same_symbol l m) (among l ms) h) [
+      | inl e ↦ subst (λ s. held_by_some c.kernels s ≡ false) (sym (same_symbol-eq l m e)) (is_not _ (both (not (held_by_some c.kernels m)) _ free).0)
+      | inr later ↦ free_lock c ms l (both _ _ free).1 later
+    ]
 
 -- a lock that is held is not entered
 no_enter : (set : Setup) (c : Core) (h : Handed) (j k : ℕ) (ls : List Sym) (l : Sym)

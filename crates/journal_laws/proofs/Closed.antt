@@ -7,12 +7,12 @@ use Rattle.std.specs.Ordering.{is_eq}
 use Rattle.expr_tree.specs.declared.sym.Sym.{Sym}
 use Rattle.expr_tree.specs.Tree.{Tree}
 use Rattle.expr_tree.specs.Order.{symbol_cmp, same_symbol}
+use Rattle.expr_tree.specs.Same.{symbol_eq}
 use Rattle.semantics.specs.Names.{Names}
-use Rattle.semantics.specs.Binding.{among}
+use Rattle.expr_tree.specs.Substitution.{among}
 use Rattle.semantics.specs.Definitions.{Definition, Definitions, look_up}
-use Rattle.semantics.proofs.Same.{same_symbol-self}
 use Rattle.journal.specs.Closure.{is_row, is_shared, stored_symbols, symbols_of_definition, InClosure, seed, named, followed, table, Reach, reaches, put_symbol, put_symbols, opens_table, reach_of, is_followed, set_aside, next_followed, grown, defined, nothing_reached, closure}
-use Rattle.journal_laws.proofs.Tables.{both, either, or_left, or_right, is_not, none≢some, some_is, same_symbol-eq}
+use Rattle.journal_laws.proofs.Tables.{both, either, or_left, or_right, is_not, none≢some, some_is, same_symbol-eq, same_symbol-self, equal_symbols}
 
 -- ---- lists of symbols
 
@@ -20,22 +20,14 @@ abbrev Among : Sym → List Sym → Type 0
 Among s ss = among s ss ≡ true
 
 first : (s : Sym) (ss : List Sym) → Among s (s ∷ ss)
-first s ss = ap (λ b. elim b [ true ↦ true | false ↦ among s ss ]) (same_symbol-self s)
+first s ss = or_left (symbol_eq s s) (among s ss) (same_symbol-self s)
 
 -- after t, or t itself
 among_rest : (s t : Sym) (ts : List Sym) → Among s ts → Among s (t ∷ ts)
-among_rest s t ts h = go (same_symbol s t)
-  where
-    go : (b : Bool) → elim b [ true ↦ true | false ↦ among s ts ] ≡ true
-    go true = refl
-    go false = h
+among_rest s t ts h = or_right (symbol_eq s t) (among s ts) h
 
 among_cases : (s t : Sym) (ts : List Sym) → Among s (t ∷ ts) → (s ≡ t) ⊎ Among s ts
-among_cases s t ts h = go (same_symbol s t) refl h
-  where
-    go : (b : Bool) → same_symbol s t ≡ b → elim b [ true ↦ true | false ↦ among s ts ] ≡ true → (s ≡ t) ⊎ Among s ts
-    go true e h' = inl (same_symbol-eq s t e)
-    go false e h' = inr h'
+among_cases s t ts h = elim (either (symbol_eq s t) (among s ts) h) [ inl l ↦ inl (same_symbol-eq s t l) | inr r ↦ inr r ]
 
 among_at : (s t : Sym) (ts : List Sym) → s ≡ t → Among s (t ∷ ts)
 among_at s t ts e = subst (λ x. Among s (x ∷ ts)) e (first s ts)
@@ -55,9 +47,6 @@ among_either s (x ∷ ss) ts h =
       | inl e ↦ inl (among_at s x ss e)
       | inr r ↦ elim (among_either s ss ts r) [ inl l ↦ inl (among_rest s x ss l) | inr m ↦ inr m ]
     ]
-
-equal_symbols : (s t : Sym) → symbol_cmp s t ≡ Equal → s ≡ t
-equal_symbols s t e = same_symbol-eq s t (ap is_eq e)
 
 -- the symbol that is put in is there
 put_there : (s : Sym) (ts : List Sym) → Among s (put_symbol s ts)

@@ -244,6 +244,9 @@ all_are_done c (i ∷ is) id h m = go (id == i) refl m (all_are_done c is id (bo
     go true e m' next = subst (λ j. done_in (item_in c.items j) ≡ 1) (sym (eqb-true id i e)) (done_at i (both _ _ h).0)
     go false e m' next = next m'
 
+finished : (n before after : ℕ) → n + before ≡ after → before ≡ 0 → after ≡ 1 → n ≡ 1
+finished n before after e f g = omega (arith, e, f, g)
+
 pub all_have_results : (set : Setup) (ps : List Posted) (c : Core) → replay_from set (start set) ps ≡ Some c
     → (p : Posted) (ids : List ℕ) → p.entry.event ≡ Event.Resume → c.wait ≡ Some (Wait.All ids) → allowed set c p ≡ true
     → (id : ℕ) → member id ids ≡ true → length (results set (start set) ps id) ≡ 1
@@ -251,6 +254,4 @@ all_have_results set ps c r p ids is_resume waits ok id m =
     let permits : permitted set c p.handed p.entry.kernel Event.Resume ≡ true = subst (λ e. permitted set c p.handed p.entry.kernel e ≡ true) is_resume (both _ _ ok).1 in
     let holds' : elim (c.wait) [ None ↦ false | Some w ↦ holds set.names c w ] ≡ true = (both _ _ (both _ _ permits).0).1 in
     let is_done : done_in (item_in c.items id) ≡ 1 = all_are_done c ids id (subst (λ w. elim w [ None ↦ false | Some v ↦ holds set.names c v ] ≡ true) waits holds') m in
-    let total = all_count set (start set) c ps id r in
-    let first = none_at_start set id in
-    omega (arith, total, first, is_done)
+    finished _ _ _ (all_count set (start set) c ps id r) (none_at_start set id) is_done

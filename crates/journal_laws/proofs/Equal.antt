@@ -1,13 +1,13 @@
 -- What the comparisons call the same is equal.
 use Rattle.std.proofs.Common.{◌≡◌, refl, sym, ap, subst, ℕ, Bool, true, false, List, [], ◌∷◌, T, true≢false, eqb-true}
-use Rattle.std.specs.Prelude.{◌==◌, ℤ, ◌<ℤ◌}
+use Rattle.std.specs.Prelude.{◌==◌}
 use Rattle.std.specs.declared.cmp.Ordering.TheVariants.{Less, Equal, Greater}
-use Rattle.std.specs.Ordering.{is_eq, nat_cmp, int_cmp, ordering_then}
-use Rattle.std.specs.Cmp.{ranked, int_ranks}
-use Rattle.std.specs.Ordering.{MatchOrdering}
+use Rattle.std.specs.Ordering.{is_eq, nat_cmp}
+use Rattle.std.specs.Cmp.{ranked}
 use Rattle.expr_tree.specs.declared.sym.Sym.{Sym}
-use Rattle.expr_tree.specs.Tree.{Tree, Trees, integer, string, symbol, normal, nil, cons, count}
-use Rattle.expr_tree.specs.Order.{tree_cmp, trees_cmp, symbol_cmp, text_cmp, same, same_symbol}
+use Rattle.expr_tree.specs.Tree.{Tree}
+use Rattle.expr_tree.specs.Order.{text_cmp, same, same_symbol}
+use Rattle.expr_tree.proofs.Same.{tree_eq-true}
 use Rattle.semantics.specs.Eval.{same_symbols}
 use Rattle.journal.specs.Entry.{Event, Wait}
 use Rattle.journal.specs.Run.{same_ids, same_wait, is_event}
@@ -22,14 +22,6 @@ greater_not e = subst (λ o. T (is_eq o)) (sym e) tt
 nats : (m n : ℕ) → nat_cmp m n ≡ Equal → m ≡ n
 nats m n e = ranked m n Equal (sym e)
 
-ints : (m n : ℤ) → int_cmp m n ≡ Equal → m ≡ n
-ints m n e = subst (λ o. MatchOrdering o (m <ℤ n) (m ≡ n) (n <ℤ m)) e (int_ranks m n)
-
-symbols : (s t : Sym) → symbol_cmp s t ≡ Equal → s ≡ t
-symbols s t e =
-    let parts = second_equal (nat_cmp s.base t.base) (nat_cmp s.number t.number) e in
-    λ i. record { base = nats s.base t.base parts.0 i; number = nats s.number t.number parts.1 i }
-
 texts : (s t : List ℕ) → text_cmp s t ≡ Equal → s ≡ t
 texts [] [] e = refl
 texts [] (d ∷ t) e = absurd (less_not e)
@@ -39,42 +31,8 @@ texts (c ∷ s) (d ∷ t) e =
     let rest = texts s t parts.1 in
     λ i. nats c d parts.0 i ∷ rest i
 
-mutual
-  tree_equal : (a b : Tree) → tree_cmp a b ≡ Equal → a ≡ b
-  tree_equal (integer m) (integer n) e = ap integer (ints m n e)
-  tree_equal (integer m) (string t) e = absurd (less_not e)
-  tree_equal (integer m) (symbol t) e = absurd (less_not e)
-  tree_equal (integer m) (normal g fs) e = absurd (less_not e)
-  tree_equal (string s) (integer n) e = absurd (greater_not e)
-  tree_equal (string s) (string t) e = ap string (texts s t e)
-  tree_equal (string s) (symbol t) e = absurd (less_not e)
-  tree_equal (string s) (normal g fs) e = absurd (less_not e)
-  tree_equal (symbol s) (integer n) e = absurd (greater_not e)
-  tree_equal (symbol s) (string t) e = absurd (greater_not e)
-  tree_equal (symbol s) (symbol t) e = ap symbol (symbols s t e)
-  tree_equal (symbol s) (normal g fs) e = absurd (less_not e)
-  tree_equal (normal h es) (integer n) e = absurd (greater_not e)
-  tree_equal (normal h es) (string t) e = absurd (greater_not e)
-  tree_equal (normal h es) (symbol t) e = absurd (greater_not e)
-  tree_equal (normal h es) (normal g fs) e =
-      let parts = second_equal (nat_cmp (count es) (count fs)) (ordering_then (tree_cmp h g) (trees_cmp es fs)) e in
-      let inner = second_equal (tree_cmp h g) (trees_cmp es fs) parts.1 in
-      let head = tree_equal h g inner.0 in
-      let items = trees_equal es fs inner.1 in
-      λ i. normal (head i) (items i)
-
-  trees_equal : (es fs : Trees) → trees_cmp es fs ≡ Equal → es ≡ fs
-  trees_equal nil nil e = refl
-  trees_equal nil (cons f fs) e = absurd (less_not e)
-  trees_equal (cons x es) nil e = absurd (greater_not e)
-  trees_equal (cons x es) (cons f fs) e =
-      let parts = second_equal (tree_cmp x f) (trees_cmp es fs) e in
-      let first = tree_equal x f parts.0 in
-      let rest = trees_equal es fs parts.1 in
-      λ i. cons (first i) (rest i)
-
 pub same-eq : (a b : Tree) → same a b ≡ true → a ≡ b
-same-eq a b e = tree_equal a b (is_equal (tree_cmp a b) e)
+same-eq a b e = tree_eq-true a b e
 
 pub same_text-eq : (s t : List ℕ) → is_eq (text_cmp s t) ≡ true → s ≡ t
 same_text-eq s t e = texts s t (is_equal (text_cmp s t) e)

@@ -1,5 +1,5 @@
 -- Truth values, symbols, and lists read and written by place.
-use Rattle.std.proofs.Common.{◌≡◌, refl, sym, ap, subst, ◌∙◌, ℕ, zero, suc, ◌+◌, Bool, true, false, List, [], ◌∷◌, Option, Some, None, T, true≢false, eq-eqb, arith, inl, inr}
+use Rattle.std.proofs.Common.{◌≡◌, refl, sym, ap, subst, ◌∙◌, ℕ, zero, suc, ◌+◌, Bool, true, false, List, [], ◌∷◌, Option, Some, None, T, true≢false, eq-eqb, eqb-true, arith, inl, inr}
 use Rattle.std.specs.Prelude.{◌&&◌, ◌||◌, not, ◌==◌, ◌⊎◌}
 use Rattle.std.specs.declared.cmp.Ordering.{Ordering}
 use Rattle.std.specs.declared.cmp.Ordering.TheVariants.{Less, Equal, Greater}
@@ -57,7 +57,15 @@ is_equal Greater e = absurd (true≢false (sym e))
 
 pub same_symbol-eq : (s t : Sym) → same_symbol s t ≡ true → s ≡ t
 same_symbol-eq s t e =
-    let parts = second_equal (nat_cmp s.base t.base) (nat_cmp s.number t.number) (is_equal (symbol_cmp s t) e) in
+    let parts = both (s.base == t.base) (s.number == t.number) e in
+    λ i. record { base = eqb-true s.base t.base parts.0 i; number = eqb-true s.number t.number parts.1 i }
+
+pub same_symbol-self : (s : Sym) → same_symbol s s ≡ true
+same_symbol-self s = ap (λ b. b && (s.number == s.number)) (eq-eqb s.base s.base refl) ∙ eq-eqb s.number s.number refl
+
+pub equal_symbols : (s t : Sym) → symbol_cmp s t ≡ Equal → s ≡ t
+equal_symbols s t e =
+    let parts = second_equal (nat_cmp s.base t.base) (nat_cmp s.number t.number) e in
     λ i. record { base = ranked s.base t.base Equal (sym parts.0) i; number = ranked s.number t.number Equal (sym parts.1) i }
 
 -- ---- places
