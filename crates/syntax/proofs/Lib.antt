@@ -1,0 +1,3 @@
+mod Table
+pub mod Reader
+pub mod Read

@@ -1,0 +1,13 @@
+pub mod Signs
+pub mod Tokens
+pub mod Leaves
+pub mod Operators
+pub mod Terminals
+pub mod Phrases
+pub mod Grammar
+pub mod Reads
+pub mod Shapes
+pub mod Input
+pub mod Lines
+pub mod Make
+pub mod Laws

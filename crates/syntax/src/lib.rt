@@ -1,0 +1,14 @@
+//! The definitions of reading and printing, and laws over them. Each function here has no code: its contract is a law.
+#![tactic(auto)]
+
+ghost use Rattle.syntax.specs.Laws.{OneReading, ReadOrOffset};
+
+/// A cell has at most one reading.
+pub fn a_cell_has_one_reading()
+    ensures law { OneReading }
+{}
+
+/// A cell that has no reading has a syntax offset.
+pub fn a_cell_is_read_or_has_an_offset()
+    ensures law { ReadOrOffset }
+{}

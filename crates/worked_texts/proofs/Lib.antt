@@ -1,0 +1,5 @@
+mod Sample
+mod Printing
+mod Tokens
+mod Leaves
+mod Readings

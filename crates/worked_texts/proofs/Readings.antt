@@ -1,0 +1,2 @@
+-- What cells are read as.
+use Rattle.syntax.proofs.Unique.{complete}
