@@ -9,3 +9,4 @@ pub mod Run
 pub mod Spans
 pub mod Quiet
 pub mod Lines
+pub mod Transcript
