@@ -12,3 +12,5 @@ mod Attempts
 mod Views
 mod Closed
 mod Cutting
+mod Tidy
+mod Insides

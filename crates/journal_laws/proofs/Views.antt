@@ -81,7 +81,7 @@ all_entries set k c z (p ∷ ps) v w row at s r q =
     let n = one_entry set k c p v t.0 row at s t.1 in
     all_entries set k (effect set c p) z ps t.0 w n.0 n.1 n.2 parts.1 t.2
 
-a_row : (n k : ℕ) → suc k ≤ n → nth (replicate n (new_kernel true)) k ≡ Some (new_kernel true)
+pub a_row : (n k : ℕ) → suc k ≤ n → nth (replicate n (new_kernel true)) k ≡ Some (new_kernel true)
 a_row zero k h = absurd (omega arith)
 a_row (suc n) zero h = refl
 a_row (suc n) (suc k) h = a_row n k (omega arith)

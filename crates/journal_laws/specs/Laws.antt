@@ -1,17 +1,18 @@
 -- Statements over all journals.
-use Rattle.std.specs.Prelude.{◌≡◌, ℕ, zero, suc, ◌≤◌, List, [], ◌∷◌, ◌++◌, length, Bool, true, false, Option, Some, None}
+use Rattle.std.specs.Prelude.{◌≡◌, ℕ, zero, suc, ◌≤◌, List, [], ◌∷◌, ◌++◌, length, Bool, true, false, not, T, Option, Some, None}
 use Rattle.expr_tree.specs.declared.sym.Sym.{Sym}
 use Rattle.expr_tree.specs.Tree.{Tree}
 use Rattle.semantics.specs.Names.{Names}
 use Rattle.semantics.specs.Definitions.{Definitions}
 use Rattle.semantics.specs.Program.{Request, Call}
-use Rattle.semantics.specs.Play.{Play}
+use Rattle.semantics.specs.Play.{Reply, Play}
+use Rattle.semantics.specs.Opened.{opens, may_call}
 use Rattle.journal.specs.Table.{member}
 use Rattle.journal.specs.Closure.{InClosure, reaches, closure}
 use Rattle.journal.specs.Cuts.{Method, Per, cut}
-use Rattle.journal.specs.Entry.{Wait, Event, Entry, Posted}
-use Rattle.journal.specs.Core.{Setup, Core, start, allowed, step, replay, attempt_of, status_of, runs_or_dropped}
-use Rattle.journal.specs.Follow.{View, Phase, Free, At, Lost, watch, kernel_run}
+use Rattle.journal.specs.Entry.{Wait, Event, Entry, Item, Posted}
+use Rattle.journal.specs.Core.{Setup, Core, start, allowed, step, replay, attempt_of, holds_nothing, status_of, runs_or_dropped}
+use Rattle.journal.specs.Follow.{Attempt, Wants, Delivers, Quits, Stuck, attempt, View, Phase, Free, At, Lost, watch, kernel_run}
 use Rattle.journal.specs.Spans.{sections, NeverOverlap, results}
 use Rattle.journal.specs.Run.{Reading, Legal, Walk, Answered, Ran, answer, Finish, play_along, run_cells, posted_by}
 
@@ -117,3 +118,28 @@ abbrev pub CutsPartition : Type 0
 CutsPartition =
     (method : Method) (kernels : ℕ) (es : List Tree) → is_usable method ≡ true
     → (chunks_joined (cut method kernels es) ≡ es) × NoneEmpty (cut method kernels es)
+
+-- ---- sections of attempts
+
+-- what is left of an attempt, inside a section or not: it enters one only outside, leaves one only inside, and delivers outside
+pub data Ordered : Bool → Attempt → Type 0 where
+  wants : {inside : Bool} {c : Call} {next : Reply → Attempt} → T (may_call c inside)
+      → ((v : Tree) → Ordered (opens c (Reply.Replied v) inside) (next (Reply.Replied v))) → Ordered inside (Wants c next)
+  delivers : {v : Tree} {d : Definitions} → Ordered false (Delivers v d)
+  quits : {inside : Bool} → Ordered inside Quits
+  stuck : {inside : Bool} → Ordered inside Stuck
+
+-- each attempt begins outside and goes on so
+abbrev pub AttemptsOrdered : Type 0
+AttemptsOrdered = (set : Setup) (k : ℕ) (item : Item) (d : Definitions) → Ordered false (attempt set k item d)
+
+abbrev pub StandsIn : Phase → Bool → Type 0
+StandsIn (Free d) inside = inside ≡ false
+StandsIn (At id a) inside = Ordered inside a
+StandsIn Lost inside = inside ≡ false
+
+-- a kernel that follows its evaluations holds locks exactly where its attempt is inside a section
+abbrev pub LocksAgree : Type 0
+LocksAgree =
+    (set : Setup) (k : ℕ) (ps : List Posted) (c : Core) (v : View) → suc k ≤ set.kernels → replay set ps ≡ Some c → kernel_run set (suc k) ps ≡ Some v
+    → StandsIn v.phase (not (holds_nothing c (suc k)))

@@ -1,7 +1,7 @@
 //! Laws of journals. Each function here has no code: its contract is a law.
 #![tactic(auto)]
 
-ghost use Rattle.journal_laws.specs.Laws.{SectionsApart, OneResult, AllHaveResults, RunGrows, LegalReplays, OneJournal, EntryByEntry, AttemptsAgree, PhaseIsAttempt, ClosureIsLeast, CutsPartition};
+ghost use Rattle.journal_laws.specs.Laws.{SectionsApart, OneResult, AllHaveResults, RunGrows, LegalReplays, OneJournal, EntryByEntry, AttemptsAgree, PhaseIsAttempt, ClosureIsLeast, CutsPartition, AttemptsOrdered, LocksAgree};
 
 /// Two sections that share a lock never overlap, in whatever is a replay.
 pub fn sections_never_overlap()
@@ -56,4 +56,14 @@ pub fn closure_is_least()
 /// The chunks of a list are its elements in order, and none of them is empty.
 pub fn cuts_partition_the_list()
     ensures law { CutsPartition }
+{}
+
+/// An attempt enters a section only outside one, leaves one only inside, and delivers outside.
+pub fn attempts_are_ordered()
+    ensures law { AttemptsOrdered }
+{}
+
+/// A kernel that follows its evaluations holds locks, in the core, exactly where its attempt is inside a section.
+pub fn locks_are_the_section()
+    ensures law { LocksAgree }
 {}
