@@ -1,4 +1,10 @@
 -- Assignment: the rows that change definitions, as programs.
+--     assign                a value or rule attached to all its symbols, or $Failed
+--     set, set_delayed, tag_set, tag_set_delayed      the six forms of assignment
+--     unset                 an own value, or all rules with a left side, taken away
+--     change                an expression made of the old value of a symbol is evaluated and becomes its new value
+--     clear, clear_all, change_attributes, protect, attributes_row      the rows on one symbol
+--     unless_item           a definition of a shared symbol that is no access is refused in an item
 use Rattle.std.specs.Prelude.{ℤ, negsuc, List, [], ◌∷◌, map, Bool, true, false, ◌&&◌, ◌||◌, not, Option, Some, None, is_some}
 use Rattle.expr_tree.specs.declared.sym.Sym.{Sym}
 use Rattle.expr_tree.specs.Tree.{Tree, integer, symbol}

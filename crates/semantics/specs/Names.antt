@@ -1,4 +1,9 @@
 -- The names that an evaluation goes by: which base is which row of the built-in table.
+--     Names, IsNames        two functions, from rows to bases and back; that they agree
+--     name, make            the symbol of a row, and row[items]
+--     is_name, is_call      whether an expression is the row's symbol, or row[..]
+--     role_of               the row of a symbol, if it is one
+--     symbol_of             the symbol of an expression: itself, or its innermost leftmost head
 use Rattle.std.specs.Prelude.{◌≡◌, ℕ, List, [], ◌∷◌, Bool, true, false, ◌&&◌, ◌==◌, Option, Some, None}
 use Rattle.expr_tree.specs.declared.sym.Sym.{Sym}
 use Rattle.expr_tree.specs.Tree.{Tree, integer, string, symbol, normal, elements, call}

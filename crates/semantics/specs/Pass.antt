@@ -1,8 +1,13 @@
--- One pass of the standard evaluation sequence, as a program. An integer and a text stay; a symbol is replaced by its own value.
+-- One pass of the standard evaluation sequence, as a program. An integer and a string stay; a symbol is replaced by its own value.
 -- A normal expression: its head is evaluated; then its elements, but for those that are held; elements Sequence[..] are spliced in;
 -- the outermost Unevaluated of each element is taken off; under Flat elements with the same head are flattened into it;
 -- under Listable it is threaded over Lists; under Orderless it is sorted; the up rules of the symbol of each element are tried;
 -- then the down rules of the head, then the head's row of the table. The first of these that gives a result ends the pass.
+--     pass                  the pass
+--     later_steps           what follows splicing
+--     up_rules, down_rules  the rules that are tried; built_in is the row
+--     left_standing         what stands where nothing gives a result
+--     symbol_pass           a symbol
 use Rattle.std.specs.Prelude.{pos, List, [], ◌∷◌, true, false, ◌&&◌, not, Option, Some, None}
 use Rattle.expr_tree.specs.declared.sym.Sym.{Sym}
 use Rattle.expr_tree.specs.Tree.{Tree, integer, string, symbol, normal, elements, call}

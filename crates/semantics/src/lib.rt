@@ -1,23 +1,9 @@
-//! The definition of the evaluator, and laws over it. Each function here has no code: its contract is a law.
+//! The definition of the language: what an evaluation of an expression is, for each setting and all definitions.
+//! It has no code. specs/Lib.antt names its files from below; specs/Play.antt and specs/Eval.antt are the two ends:
+//! an evaluation as a tree of calls and replies, and along a list of them.
 #![tactic(auto)]
 
-ghost use Rattle.semantics.specs.Laws.{LooserKeeps, ModeIndependent, PutLaw};
 ghost use Rattle.semantics.specs.Opened.{SectionsInOrder};
-
-/// Looser limits change no evaluation that ended with a value or at Quit.
-pub fn looser_limits_keep()
-    ensures law { LooserKeeps }
-{}
-
-/// Where `used` is false at the end, mode and kernel number do not matter.
-pub fn mode_does_not_matter()
-    ensures law { ModeIndependent }
-{}
-
-/// Another definition of one symbol is stored for it, and changes that of no other.
-pub fn a_put_is_read()
-    ensures law { PutLaw }
-{}
 
 /// Each evaluation enters a section only where none is open, and leaves one only where one is.
 pub fn sections_are_in_order()

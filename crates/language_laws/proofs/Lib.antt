@@ -1,0 +1,3 @@
+mod Limits
+pub mod Modes
+pub mod Stored

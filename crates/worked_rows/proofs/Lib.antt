@@ -1,0 +1,11 @@
+mod Sequence
+mod Arithmetic
+mod Comparisons
+mod Patterns
+mod Assignments
+mod Scopes
+mod Lists
+mod Turns
+mod LimitRows
+mod Sharing
+mod ByName

@@ -1,0 +1,154 @@
+-- Patterns, guards and replacing.
+use Rattle.std.proofs.Common.{◌≡◌, refl, [], ◌∷◌}
+use Rattle.expr_tree.specs.Tree.{call}
+use Rattle.semantics.specs.Builtin.{Builtin}
+use Rattle.worked_rows.specs.Sample.{a', apply, b', blank, blanks, cells, condition, equals, f', g', h', int, list, n', null, numbers, o', of, plus, replacing, rule, some_blanks, symbol_of_row, value, x', y'}
+
+-- {1, 2, 3} /. {x__, y__} -> {{x}, {y}}
+a_sequence_takes_the_shortest_run_first :
+    cells (
+    replacing (numbers (1 ∷ 2 ∷ 3 ∷ [])) (rule (list (blanks x' ∷ blanks y' ∷ [])) (list (list (x' ∷ []) ∷ list (y' ∷ []) ∷ []))) ∷ [])
+    ≡ value (list (numbers (1 ∷ []) ∷ numbers (2 ∷ 3 ∷ []) ∷ [])) ∷ []
+a_sequence_takes_the_shortest_run_first = refl
+
+-- MatchQ[f[1, 2], f[x_, y_]]; MatchQ[f[1, 2], f[x_, x_]]; MatchQ[f[1, 1], f[x_, x_]]
+equal_names_match_identical_expressions :
+    cells (
+    of Builtin.MatchQ (call f' (int 1 ∷ int 2 ∷ []) ∷ call f' (blank x' ∷ blank y' ∷ []) ∷ [])
+    ∷ of Builtin.MatchQ (call f' (int 1 ∷ int 2 ∷ []) ∷ call f' (blank x' ∷ blank x' ∷ []) ∷ [])
+    ∷ of Builtin.MatchQ (call f' (int 1 ∷ int 1 ∷ []) ∷ call f' (blank x' ∷ blank x' ∷ []) ∷ []) ∷ [])
+    ≡ value (symbol_of_row Builtin.True)
+    ∷ value (symbol_of_row Builtin.False)
+    ∷ value (symbol_of_row Builtin.True) ∷ []
+equal_names_match_identical_expressions = refl
+
+-- SetAttributes[g, Flat]; g[1, 2, 3] /. g[x_, y_] -> {x, y}
+a_blank_under_flat_takes_a_run :
+    cells (
+    of Builtin.SetAttributes (g' ∷ symbol_of_row Builtin.Flat ∷ [])
+    ∷ replacing (call g' (int 1 ∷ int 2 ∷ int 3 ∷ [])) (rule (call g' (blank x' ∷ blank y' ∷ [])) (list (x' ∷ y' ∷ []))) ∷ [])
+    ≡ null
+    ∷ value (list (int 1 ∷ call g' (int 2 ∷ int 3 ∷ []) ∷ [])) ∷ []
+a_blank_under_flat_takes_a_run = refl
+
+-- SetAttributes[o, Orderless]; o[b, a] /. o[x_, y_] -> {x, y}
+orderless_patterns_choose_by_position :
+    cells (
+    of Builtin.SetAttributes (o' ∷ symbol_of_row Builtin.Orderless ∷ [])
+    ∷ replacing (call o' (b' ∷ a' ∷ [])) (rule (call o' (blank x' ∷ blank y' ∷ [])) (list (x' ∷ y' ∷ []))) ∷ [])
+    ≡ null
+    ∷ value (list (a' ∷ b' ∷ [])) ∷ []
+orderless_patterns_choose_by_position = refl
+
+-- MatchQ[f[1], _f]; MatchQ[3, _f]; MatchQ[{1, 2}, {__f}]; MatchQ[{}, {___}]
+a_typed_blank_asks_for_a_head :
+    cells (
+    of Builtin.MatchQ (apply f' (int 1) ∷ of Builtin.Blank (f' ∷ []) ∷ [])
+    ∷ of Builtin.MatchQ (int 3 ∷ of Builtin.Blank (f' ∷ []) ∷ [])
+    ∷ of Builtin.MatchQ (numbers (1 ∷ 2 ∷ []) ∷ list (of Builtin.BlankSequence (f' ∷ []) ∷ []) ∷ [])
+    ∷ of Builtin.MatchQ (list [] ∷ list (of Builtin.BlankNullSequence [] ∷ []) ∷ []) ∷ [])
+    ≡ value (symbol_of_row Builtin.True)
+    ∷ value (symbol_of_row Builtin.False)
+    ∷ value (symbol_of_row Builtin.False)
+    ∷ value (symbol_of_row Builtin.True) ∷ []
+a_typed_blank_asks_for_a_head = refl
+
+-- {1, 2} /. {x_, y_} | {y_, x_} -> f[x, y]; MatchQ[b, a | b]
+alternatives_go_from_left_to_right :
+    cells (
+    replacing (numbers (1 ∷ 2 ∷ [])) (rule (of Builtin.Alternatives (list (blank x' ∷ blank y' ∷ []) ∷ list (blank y' ∷ blank x' ∷ []) ∷ [])) (call f' (x' ∷ y' ∷ [])))
+    ∷ of Builtin.MatchQ (b' ∷ of Builtin.Alternatives (a' ∷ b' ∷ []) ∷ []) ∷ [])
+    ≡ value (call f' (int 1 ∷ int 2 ∷ []))
+    ∷ value (symbol_of_row Builtin.True) ∷ []
+alternatives_go_from_left_to_right = refl
+
+-- Cases[{1, a, 2}, _?IntegerQ]; Cases[{1, a, 2}, x_ /; x > 1]
+tests_and_conditions_guard :
+    cells (
+    of Builtin.Cases (list (int 1 ∷ a' ∷ int 2 ∷ []) ∷ of Builtin.PatternTest (of Builtin.Blank [] ∷ symbol_of_row Builtin.IntegerQ ∷ []) ∷ [])
+    ∷ of Builtin.Cases (list (int 1 ∷ a' ∷ int 2 ∷ []) ∷ condition (blank x') (of Builtin.Greater (x' ∷ int 1 ∷ [])) ∷ []) ∷ [])
+    ≡ value (numbers (1 ∷ 2 ∷ []))
+    ∷ value (numbers (2 ∷ [])) ∷ []
+tests_and_conditions_guard = refl
+
+-- n = 0; MatchQ[5, x_ /; (n = n + 1; x > 3)]; n
+a_guard_of_a_question_is_tried_once :
+    cells (
+    equals n' (int 0)
+    ∷ of Builtin.MatchQ (int 5 ∷ condition (blank x') (of Builtin.CompoundExpression (equals n' (plus n' (int 1)) ∷ of Builtin.Greater (x' ∷ int 3 ∷ []) ∷ [])) ∷ [])
+    ∷ n' ∷ [])
+    ≡ value (int 0)
+    ∷ value (symbol_of_row Builtin.True)
+    ∷ value (int 1) ∷ []
+a_guard_of_a_question_is_tried_once = refl
+
+-- MatchQ[x_, Verbatim[x_]]; MatchQ[3, Verbatim[x_]]; MatchQ[3, HoldPattern[x_]]
+verbatim_and_hold_pattern :
+    cells (
+    of Builtin.MatchQ (blank x' ∷ of Builtin.Verbatim (blank x' ∷ []) ∷ [])
+    ∷ of Builtin.MatchQ (int 3 ∷ of Builtin.Verbatim (blank x' ∷ []) ∷ [])
+    ∷ of Builtin.MatchQ (int 3 ∷ of Builtin.HoldPattern (blank x' ∷ []) ∷ []) ∷ [])
+    ≡ value (symbol_of_row Builtin.True)
+    ∷ value (symbol_of_row Builtin.False)
+    ∷ value (symbol_of_row Builtin.True) ∷ []
+verbatim_and_hold_pattern = refl
+
+-- MatchQ[Pattern[1, _], Pattern[1, _]]; MatchQ[3, Pattern[1, _]]
+another_shape_is_ordinary :
+    cells (
+    of Builtin.MatchQ (of Builtin.Pattern (int 1 ∷ of Builtin.Blank [] ∷ []) ∷ of Builtin.Pattern (int 1 ∷ of Builtin.Blank [] ∷ []) ∷ [])
+    ∷ of Builtin.MatchQ (int 3 ∷ of Builtin.Pattern (int 1 ∷ of Builtin.Blank [] ∷ []) ∷ []) ∷ [])
+    ≡ value (symbol_of_row Builtin.True)
+    ∷ value (symbol_of_row Builtin.False) ∷ []
+another_shape_is_ordinary = refl
+
+-- f[a] /. f[x_, y___] -> g[y, x]
+a_run_of_none_is_an_empty_sequence :
+    cells (
+    replacing (apply f' a') (rule (call f' (blank x' ∷ some_blanks y' ∷ [])) (call g' (y' ∷ x' ∷ []))) ∷ [])
+    ≡ value (apply g' a') ∷ []
+a_run_of_none_is_an_empty_sequence = refl
+
+-- Cases[h[1, a, 2], _?IntegerQ]; Cases[{f[1], a}, f[x_] -> x]
+the_head_of_the_list_is_kept :
+    cells (
+    of Builtin.Cases (call h' (int 1 ∷ a' ∷ int 2 ∷ []) ∷ of Builtin.PatternTest (of Builtin.Blank [] ∷ symbol_of_row Builtin.IntegerQ ∷ []) ∷ [])
+    ∷ of Builtin.Cases (list (apply f' (int 1) ∷ a' ∷ []) ∷ rule (apply f' (blank x')) x' ∷ []) ∷ [])
+    ≡ value (call h' (int 1 ∷ int 2 ∷ []))
+    ∷ value (numbers (1 ∷ [])) ∷ []
+the_head_of_the_list_is_kept = refl
+
+-- Count[{1, a, 2}, _]; MemberQ[{a, b}, b]; FreeQ[f[g[x]], g]; FreeQ[f[x], y]
+counting_and_searching :
+    cells (
+    of Builtin.Count (list (int 1 ∷ a' ∷ int 2 ∷ []) ∷ of Builtin.Blank [] ∷ [])
+    ∷ of Builtin.MemberQ (list (a' ∷ b' ∷ []) ∷ b' ∷ [])
+    ∷ of Builtin.FreeQ (apply f' (apply g' x') ∷ g' ∷ [])
+    ∷ of Builtin.FreeQ (apply f' x' ∷ y' ∷ []) ∷ [])
+    ≡ value (int 3)
+    ∷ value (symbol_of_row Builtin.True)
+    ∷ value (symbol_of_row Builtin.False)
+    ∷ value (symbol_of_row Builtin.True) ∷ []
+counting_and_searching = refl
+
+-- f[f[x]] /. f[y_] -> g[y]; f[x] //. {f[y_] -> g[y], g[x] -> 3}; {a, b} /. {}
+what_was_replaced_is_not_entered :
+    cells (
+    replacing (apply f' (apply f' x')) (rule (apply f' (blank y')) (apply g' y'))
+    ∷ of Builtin.ReplaceRepeated (apply f' x' ∷ list (rule (apply f' (blank y')) (apply g' y') ∷ rule (apply g' x') (int 3) ∷ []) ∷ [])
+    ∷ replacing (list (a' ∷ b' ∷ [])) (list []) ∷ [])
+    ≡ value (apply g' (apply f' x'))
+    ∷ value (int 3)
+    ∷ value (list (a' ∷ b' ∷ [])) ∷ []
+what_was_replaced_is_not_entered = refl
+
+-- f[f] /. f -> g
+the_head_is_replaced_before_the_elements : cells (replacing (apply f' f') (rule f' g') ∷ []) ≡ value (apply g' g') ∷ []
+the_head_is_replaced_before_the_elements = refl
+
+-- {1, 2} /. x_?IntegerQ :> x + 1
+delayed_rules_keep_their_right_side :
+    cells (
+    replacing (numbers (1 ∷ 2 ∷ [])) (of Builtin.RuleDelayed (of Builtin.PatternTest (blank x' ∷ symbol_of_row Builtin.IntegerQ ∷ []) ∷ plus x' (int 1) ∷ [])) ∷ [])
+    ≡ value (numbers (2 ∷ 3 ∷ [])) ∷ []
+delayed_rules_keep_their_right_side = refl
