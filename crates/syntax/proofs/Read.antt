@@ -1,6 +1,7 @@
 -- A cell has at most one reading, and one syntax offset where it has none.
-use Rattle.std.proofs.Common.{◌≡◌, ℕ, zero, suc, ◌+◌, ◌<◌, ◌≤◌, ◌⊎◌, inl, inr, ⊎_elim, Bool, true, false, ◌||◌, List, [], ◌∷◌, ◌++◌, map, take, drop, length, Option, Some, None, option_and_then, refl, sym, ap, subst, ◌∙◌, arith, append_assoc, append-nil, take_all, length-append, take-append-drop}
+use Rattle.std.proofs.Common.{◌≡◌, ℕ, zero, suc, ◌+◌, ◌<◌, ◌≤◌, ◌⊎◌, inl, inr, ⊎_elim, Bool, true, false, ◌||◌, List, [], ◌∷◌, ◌++◌, map, take, drop, length, Option, Some, None, option_and_then, refl, sym, ap, subst, ◌∙◌, arith, append_assoc, append-nil, take_all, length-append, take-append-drop, take-take}
 use Rattle.std.proofs.lemmas.List.{map-append}
+use Rattle.std.proofs.lemmas.Bool.{cases_order}
 use Rattle.std.proofs.Math.Seq.{take-append_seam}
 use Rattle.std.specs.Prelude.{codes}
 use Rattle.semantics.specs.Builtin.{Builtin}
@@ -14,7 +15,7 @@ use Rattle.syntax.specs.Terminals.{Phrase, PhraseKind, Closed, NameToken, Number
 use Rattle.syntax.specs.Phrases.{Constructs, written, same_row}
 use Rattle.syntax.specs.Grammar.{WholeOf, nesting_limit}
 use Rattle.syntax.specs.Reads.{AreRead, LexemesRead, Reads, BeginsCell, IsFirstBad, IsOffset, place_of}
-use Rattle.syntax.specs.Laws.{OneReading, ReadOrOffset}
+use Rattle.syntax.specs.Laws.{OneOffset, OneReading, ReadOrOffset}
 use Rattle.syntax.proofs.Reader.{State, Filler, fill, fills, run, step, finished, start_state, SequenceFits, complete, read_once, accepted, viable, not_viable, not_read, run_last}
 
 lexeme_of : Filler → Lexeme
@@ -183,6 +184,136 @@ module _ (names : Names) (find : List ℕ → ℕ) where
   lexemes_once : (ls : List Lexeme) (d e : Tree) → LexemesRead names find ls d → LexemesRead names find ls e → d ≡ e
   lexemes_once [] d e p q = p ∙ sym q
   lexemes_once (l ∷ ls) d e p q = phrases_once (l ∷ ls) d e p q
+
+  earlier : (ls rest : List Lexeme) (j k : ℕ) (e : Tree) → j ≤ k → LexemesRead names find (take k ls ++ rest) e → LexemesRead names find (take j ls ++ (drop j (take k ls) ++ rest)) e
+  earlier ls rest j k e h r =
+      subst (λ (us : List Lexeme). LexemesRead names find us e)
+      (ap (λ (us : List Lexeme). us ++ rest) (sym (take-append-drop j (take k ls)) ∙ ap (λ (us : List Lexeme). us ++ drop j (take k ls)) (take-take j k ls h))
+      ∙ append_assoc (take j ls) (drop j (take k ls)) rest) r
+
+  not_before : (ls : List Lexeme) (j k : ℕ) → IsFirstBad names find ls j → IsFirstBad names find ls k → j < k → ⊥
+  not_before ls j k p q h =
+      let (rest, e, r) = q.before in
+      p.bad (omega (arith, q.within)) (drop (suc j) (take k ls) ++ rest, e, earlier ls rest (suc j) k e (omega arith) r)
+
+  one_bad : (ls : List Lexeme) (j k : ℕ) → IsFirstBad names find ls j → IsFirstBad names find ls k → j ≡ k
+  one_bad ls j k p q =
+      ⊎_elim (λ (e : j ≡ k). e)
+      (λ (o : (j < k) ⊎ (k < j)). ⊎_elim (λ (h : j < k). absurd (not_before ls j k p q h)) (λ (h : k < j). absurd (not_before ls k j q p h)) o)
+      (cases_order j k)
+
+  pub offset_once : (cell : List ℕ) (j k : ℕ) → IsOffset names find cell j → IsOffset names find cell k → j ≡ k
+  offset_once cell j k p q =
+      p.here ∙ ap (λ n. place_of (length cell) (lex cell).fault (drop n (lex cell).tokens)) (one_bad (lexemes cell) p.k q.k p.first_bad q.first_bad) ∙ sym q.here
+
+  -- ---- for worked cells
+
+  -- what the reader makes of a cell
+  abbrev pub expr_at_end : Option Phrase → Option Tree
+  expr_at_end None = None
+  expr_at_end (Some x) = Some x.expr
+
+  abbrev pub lexemes_parsed : List Lexeme → Option Tree
+  lexemes_parsed ls = option_and_then (λ s. expr_at_end (ends_as s)) (goes ls)
+
+  abbrev pub parsed : List ℕ → Option Tree
+  parsed cell = lexemes_parsed (lexemes cell)
+
+  ended_reads : (ls : List Lexeme) (e : Tree) (s : At) (o : Option Phrase) → goes ls ≡ Some s → ends_as s ≡ o → expr_at_end o ≡ Some e → LexemesRead names find ls e
+  ended_reads ls e s None h g q = cc
+  ended_reads ls e s (Some x) h g q =
+      let same : x.expr ≡ e = cc in
+      subst (LexemesRead names find ls) same (whole_read ls x (accepted Phrase Tree (List Tree) A (fits names) (ts ls) s x h g))
+
+  gone_reads : (ls : List Lexeme) (e : Tree) (o : Option At) → goes ls ≡ o → option_and_then (λ s. expr_at_end (ends_as s)) o ≡ Some e → LexemesRead names find ls e
+  gone_reads ls e None h q = cc
+  gone_reads ls e (Some s) h q = ended_reads ls e s (ends_as s) h refl q
+
+  pub lexemes_computed : (ls : List Lexeme) (e : Tree) → lexemes_parsed ls ≡ Some e → LexemesRead names find ls e
+  lexemes_computed ls e q = gone_reads ls e (goes ls) refl q
+
+  pub computed : (cell : List ℕ) (e : Tree) → (lex cell).fault ≡ None → parsed cell ≡ Some e → Reads names find cell e
+  computed cell e n q = record { no_fault = n; read = lexemes_computed (lexemes cell) e q }
+
+  -- the number of lexemes gone over where the reader stops, or where the end is no end
+  abbrev pub stop_at_end : ℕ → Option Phrase → Option ℕ
+  stop_at_end k None = Some k
+  stop_at_end k (Some x) = None
+
+  abbrev pub stop_here : ℕ → Option At → (At → Option ℕ) → Option ℕ
+  stop_here k None next = Some k
+  stop_here k (Some s) next = next s
+
+  abbrev pub stop_from : ℕ → List Lexeme → At → Option ℕ
+  stop_from k [] s = stop_at_end k (ends_as s)
+  stop_from k (l ∷ rest) s = stop_here k (step Phrase Tree (List Tree) A (terminal names find l) s) (stop_from (suc k) rest)
+
+  record Stops (ls : List Lexeme) (k : ℕ) : Type 0 where
+    bad : IsFirstBad names find ls k
+    unread : (e : Tree) → LexemesRead names find ls e → ⊥
+
+  stops_end : (ls : List Lexeme) (l : Lexeme) (s : At) (k : ℕ) (o : Option Phrase) → ends_as s ≡ o → goes (l ∷ ls) ≡ Some s → stop_at_end (length (l ∷ ls)) o ≡ Some k → Stops (l ∷ ls) k
+  stops_end ls l s k None g e q =
+      let same : length (l ∷ ls) ≡ k = cc in
+      record {
+        bad = subst (IsFirstBad names find (l ∷ ls)) same (bad_end (l ∷ ls) (begins_here (l ∷ ls) s e));
+        unread = λ x r. not_read Phrase Tree (List Tree) A (ts (l ∷ ls)) s r.0 e g r.1;
+      }
+  stops_end ls l s k (Some x) g e q = cc
+
+  stops_step : (ls rest : List Lexeme) (l : Lexeme) (s : At) (k : ℕ) (o : Option At) → step Phrase Tree (List Tree) A (terminal names find l) s ≡ o → goes ls ≡ Some s →
+      stop_here (length ls) o (stop_from (suc (length ls)) rest) ≡ Some k → ((s' : At) → o ≡ Some s' → stop_from (suc (length ls)) rest s' ≡ Some k → Stops (ls ++ l ∷ rest) k) → Stops (ls ++ l ∷ rest) k
+  stops_step ls rest l s k None g e q next =
+      let same : length ls ≡ k = cc in
+      let n = stops_here ls l s e g in
+      record {
+        bad = subst (IsFirstBad names find (ls ++ l ∷ rest)) same (bad_here ls rest l s e n);
+        unread = λ x r. n (read_begins ls rest l x r);
+      }
+  stops_step ls rest l s k (Some s') g e q next = next s' refl q
+
+  one_more : (ls : List Lexeme) (l : Lexeme) → length (ls ++ l ∷ []) ≡ suc (length ls)
+  one_more [] l = refl
+  one_more (m ∷ ls) l = ap (λ n. suc n) (one_more ls l)
+
+  stops : (ls rest : List Lexeme) (l : Lexeme) (s : At) (k : ℕ) → goes (ls ++ l ∷ []) ≡ Some s → stop_from (suc (length ls)) rest s ≡ Some k → Stops ((ls ++ l ∷ []) ++ rest) k
+  stops [] [] l s k e q = stops_end [] l s k (ends_as s) refl e q
+  stops (m ∷ ls) [] l s k e q =
+      subst (λ (us : List Lexeme). Stops us k) (sym (append-nil (m ∷ (ls ++ l ∷ []))))
+      (stops_end (ls ++ l ∷ []) m s k (ends_as s) refl e (subst (λ n. stop_at_end n (ends_as s) ≡ Some k) (sym (one_more (m ∷ ls) l)) q))
+  stops ls (r ∷ rest) l s k e q =
+      stops_step (ls ++ l ∷ []) rest r s k (step Phrase Tree (List Tree) A (terminal names find r) s) refl e
+      (subst (λ n. stop_here n (step Phrase Tree (List Tree) A (terminal names find r) s) (stop_from (suc n) rest) ≡ Some k) (sym (one_more ls l)) q)
+      (λ s' g p. subst (λ (us : List Lexeme). Stops us k) (append_assoc (ls ++ l ∷ []) (r ∷ []) rest)
+      (stops (ls ++ l ∷ []) rest r s' k (next_goes (ls ++ l ∷ []) r s s' e g) p))
+
+  abbrev pub stop_of : List Lexeme → Option ℕ
+  stop_of [] = None
+  stop_of (l ∷ ls) = stop_from 0 (l ∷ ls) begun
+
+  stops_of : (ls : List Lexeme) (k : ℕ) → stop_of ls ≡ Some k → Stops ls k
+  stops_of [] k q = cc
+  stops_of (l ∷ ls) k q =
+      stops_step [] ls l begun k (step Phrase Tree (List Tree) A (terminal names find l) begun) refl begun_goes q
+      (λ s' g p. stops [] ls l s' k (next_goes [] l begun s' begun_goes g) p)
+
+  pub computed_offset : (cell : List ℕ) (k place : ℕ) → stop_of (lexemes cell) ≡ Some k → place_of (length cell) (lex cell).fault (drop k (lex cell).tokens) ≡ place → IsOffset names find cell place
+  computed_offset cell k place q e =
+      let s = stops_of (lexemes cell) k q in
+      record { k = k; first_bad = s.bad; unread = λ x r. s.unread x r.read; here = sym e }
+
+  -- where the lexemes in front of a fault are read
+  pub fault_offset : (cell : List ℕ) (f : LexFault) (e : Tree) → (lex cell).fault ≡ Some f → LexemesRead names find (lexemes cell) e →
+      IsOffset names find cell (place_of (length cell) (lex cell).fault (drop (length (lexemes cell)) (lex cell).tokens))
+  fault_offset cell f e g r = record {
+    k = length (lexemes cell);
+    first_bad = bad_end (lexemes cell) ([], e, subst (λ (us : List Lexeme). LexemesRead names find us e) (sym (append-nil (lexemes cell))) r);
+    unread = λ x q. let n : None ≡ Some f = sym q.no_fault ∙ g in cc;
+    here = refl;
+  }
+
+pub one_offset : OneOffset
+one_offset names find cell j k p q = offset_once names find cell j k p q
 
 pub one_reading : OneReading
 one_reading names find cell d e p q = lexemes_once names find (lexemes cell) d e p.read q.read

@@ -12,3 +12,8 @@ OneReading = (names : Names) (find : List ℕ → ℕ) (cell : List ℕ) (d e : 
 abbrev pub ReadOrOffset : Type 0
 ReadOrOffset =
     (names : Names) (find : List ℕ → ℕ) (cell : List ℕ) → ((e : Tree) × Reads names find cell e) ⊎ ((place : ℕ) × IsOffset names find cell place)
+
+-- It has at most one syntax offset.
+abbrev pub OneOffset : Type 0
+OneOffset =
+    (names : Names) (find : List ℕ → ℕ) (cell : List ℕ) (j k : ℕ) → IsOffset names find cell j → IsOffset names find cell k → j ≡ k

@@ -2,13 +2,12 @@
 --     value_text           what is shown of a value
 --     out_line             the line of a cell's value; none where it is Null
 --     syntax_line          the line of a cell that has no reading
---     printed, print_line  the text that Print makes of its elements, and its line
-use Rattle.std.specs.Prelude.{ℕ, true, false, List, [], ◌∷◌, ◌++◌, map, codes, Option, Some}
+--     print_line           the line of a text that Print shows; the language joins it of the texts of values
+use Rattle.std.specs.Prelude.{ℕ, true, false, List, [], ◌∷◌, ◌++◌, codes, Option, Some}
 use Rattle.std.specs.Fmt.{decimal}
-use Rattle.expr_tree.specs.Tree.{Tree, Trees, string, symbol, normal, nil, cons}
+use Rattle.expr_tree.specs.Tree.{Tree, Trees, symbol, normal, nil, cons}
 use Rattle.semantics.specs.Builtin.{Builtin}
 use Rattle.semantics.specs.Names.{Names, role_of, is_name}
-use Rattle.script_text.specs.Bytes.{all_joined}
 use Rattle.script_text.specs.Spelling.{Spelling}
 use Rattle.script_text.specs.Full.{full}
 use Rattle.syntax.specs.Input.{input}
@@ -39,11 +38,3 @@ module _ (spelling : Spelling) (names : Names) where
   -- of the n-th cell
   abbrev pub out_line : ℕ → Tree → List ℕ
   out_line n v = elim (is_name names Builtin.Null v) [ true ↦ [] | false ↦ numbered_line (codes "Out") n (codes "= " ++ value_text v) ]
-
-  -- a string as its own bytes, any other element as a value
-  abbrev pub printed_one : Tree → List ℕ
-  printed_one (string t) = t
-  printed_one e = value_text e
-
-  abbrev pub printed : List Tree → List ℕ
-  printed es = all_joined (map printed_one es)

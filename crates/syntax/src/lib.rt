@@ -1,7 +1,7 @@
 //! The definitions of reading and printing, and laws over them. Each function here has no code: its contract is a law.
 #![tactic(auto)]
 
-ghost use Rattle.syntax.specs.Laws.{OneReading, ReadOrOffset};
+ghost use Rattle.syntax.specs.Laws.{OneOffset, OneReading, ReadOrOffset};
 
 /// A cell has at most one reading.
 pub fn a_cell_has_one_reading()
@@ -11,4 +11,9 @@ pub fn a_cell_has_one_reading()
 /// A cell that has no reading has a syntax offset.
 pub fn a_cell_is_read_or_has_an_offset()
     ensures law { ReadOrOffset }
+{}
+
+/// A cell has at most one syntax offset.
+pub fn a_cell_has_one_offset()
+    ensures law { OneOffset }
 {}

@@ -13,7 +13,6 @@ each_kind_of_leaf :
     ≡ int 12 ∷ x' ∷ symbol (record { base = length rows + 9; number = 3 }) ∷ of Builtin.Pattern (x' ∷ of Builtin.BlankSequence (h' ∷ []) ∷ [])
     ∷ of Builtin.BlankNullSequence [] ∷ of Builtin.Blank (x' ∷ []) ∷ of Builtin.Slot (int 1 ∷ []) ∷ of Builtin.SlotSequence (int 7 ∷ [])
     ∷ string (codes "a\"\n\\") ∷ []
-unfolding find
 each_kind_of_leaf = refl
 
 abbrev begin_lines : List Lexeme → List Bool

@@ -3,3 +3,4 @@ mod Printing
 mod Tokens
 mod Leaves
 mod Readings
+mod Nesting

@@ -4,6 +4,7 @@ use Rattle.std.specs.Prelude.{codes, length}
 use Rattle.std.specs.Fmt.{digits}
 use Rattle.expr_tree.specs.Tree.{Tree, string, symbol, call}
 use Rattle.semantics.specs.Builtin.{Builtin, rows}
+use Rattle.semantics.specs.Sections.{printed}
 use Rattle.syntax.specs.Lines as Lines
 use Rattle.syntax.specs.Make.{script}
 use Rattle.worked_texts.proofs.Sample.{names, spelling, a', b', c', f', g', h', p', q', x', y', int, less, of, name, list, out, line}
@@ -102,7 +103,7 @@ forms_asked_for :
     ++ out 3 (of Builtin.InputForm (of Builtin.Plus (a' ∷ less 1 ∷ []) ∷ []))
     ++ out 4 (of Builtin.FullForm (a' ∷ b' ∷ []))
     ++ out 5 (string (codes "a\"b\n"))
-    ++ line (Lines.printed spelling names (string (codes "a\"b") ∷ int 1 ∷ of Builtin.FullForm (list [] ∷ []) ∷ []))
+    ++ Lines.print_line (printed (Lines.value_text spelling names) (string (codes "a\"b") ∷ int 1 ∷ of Builtin.FullForm (list [] ∷ []) ∷ []))
     ≡ line (codes "Out[2]= Plus[a, -1]") ++ line (codes "Out[3]= a - 1") ++ line (codes "Out[4]= FullForm[a, b]")
     ++ line (codes "Out[5]= \"a\\\"b\\n\"") ++ line (codes "a\"b1List[]")
 unfolding digits

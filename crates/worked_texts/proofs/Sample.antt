@@ -5,8 +5,8 @@ use Rattle.expr_tree.specs.declared.sym.Sym.{Sym}
 use Rattle.expr_tree.specs.Tree.{Tree, integer, symbol}
 use Rattle.semantics.specs.Builtin.{Builtin, row_number, rows}
 use Rattle.semantics.specs.Names.{Names, make}
-use Rattle.semantics.specs.Texts.{row_text, place_in}
-use Rattle.script_text.specs.Spelling.{Spelling, by_texts}
+use Rattle.semantics.specs.Texts.{row_text}
+use Rattle.script_text.specs.Spelling.{Spelling, by_texts, place_in}
 use Rattle.syntax.specs.Lines as Lines
 use Rattle.script_text.specs.Full as Full
 
@@ -26,7 +26,7 @@ others =
 abbrev pub spelling : Spelling
 spelling = by_texts (map row_text rows ++ others)
 
-pub find : List ℕ → ℕ
+abbrev pub find : List ℕ → ℕ
 find = place_in (map row_text rows ++ others)
 
 abbrev pub sym : ℕ → Tree
