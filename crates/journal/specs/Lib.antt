@@ -1,0 +1,12 @@
+pub mod Table
+pub mod Closure
+pub mod Entry
+pub mod Core
+pub mod Follow
+pub mod Cuts
+pub mod Forms
+pub mod Run
+pub mod Spans
+pub mod Quiet
+pub mod Lines
+pub mod Transcript

@@ -1,0 +1,16 @@
+mod Tables
+mod Apart
+mod Counted
+mod Grows
+mod Kept
+mod Replayed
+mod Equal
+mod Forced
+mod Unique
+mod Steps
+mod Attempts
+mod Views
+mod Closed
+mod Cutting
+mod Tidy
+mod Insides

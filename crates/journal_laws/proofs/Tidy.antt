@@ -1,0 +1,141 @@
+-- Along replies that are values, an evaluation enters a section only outside one, leaves one only inside, and ends as it began, but at Quit.
+use Rattle.std.proofs.Common.{◌≡◌, refl, sym, ap, subst, ◌∙◌, ℕ, zero, suc, Bool, true, false, T, not, List, Option, Some, None, is_some, true≢false}
+use Rattle.expr_tree.specs.declared.sym.Sym.{Sym}
+use Rattle.expr_tree.specs.declared.limits.Stop.{Stop}
+use Rattle.expr_tree.specs.Tree.{Tree}
+use Rattle.expr_tree.specs.Order.{same}
+use Rattle.semantics.specs.Definitions.{Definitions}
+use Rattle.semantics.specs.Program.{Prog, Done, Stops, Quits, Ask, Within, Section, Open, Look, Put, Fresh, Turn, Check, Outer, Moded, Shown, Call, Request, Sends, Enter, Leave}
+use Rattle.semantics.specs.Pass.{pass}
+use Rattle.semantics.specs.Play.{Setting, State, End, Value, Stopped, Quit, Closed, Starved, Reply, Replied, Play, Over, Calls, Evaluator, ending, on_value, without_locals, calling, unless_stopped, stepped, settled, if_number_left, all_among, by_locks, sectioned, leaving, opened, run, changed, judged, passes, eval_at, begun, whole, with_definitions}
+use Rattle.semantics.specs.Opened.{opens, may_call}
+
+abbrev pub open_in : State → Bool
+open_in s = is_some s.open_section
+
+-- a value and a stop are inside a section exactly where the evaluation began inside one
+abbrev pub AsBegun : Bool → End → Bool → Type 0
+AsBegun a (Value v) now = now ≡ a
+AsBegun a (Stopped c) now = now ≡ a
+AsBegun a Quit now = Unit {0}
+AsBegun a Closed now = Unit {0}
+AsBegun a Starved now = Unit {0}
+
+pub data Tidy (a : Bool) : Bool → Play → Type 0 where
+  ended : {now : Bool} {o : End} {s : State} → open_in s ≡ now → AsBegun a o now → Tidy a now (Over o s)
+  called : {now : Bool} {c : Call} {s : State} {k : Reply → Definitions → Play} → open_in s ≡ now → T (may_call c now)
+      → ((v : Tree) (d : Definitions) → Tidy a (opens c (Replied v) now) (k (Replied v) d)) → Tidy a now (Calls c s k)
+
+abbrev Carries : Bool → (Tree → State → Play) → Type 0
+Carries a k = (v : Tree) (s : State) → open_in s ≡ a → Tidy a (open_in s) (k v s)
+
+as_begun : (a : Bool) (o : End) (now : Bool) → now ≡ a → AsBegun a o now
+as_begun a (Value v) now h = h
+as_begun a (Stopped c) now h = h
+as_begun a Quit now h = tt
+as_begun a Closed now h = tt
+as_begun a Starved now h = tt
+
+over : (a : Bool) (o : End) (s : State) → open_in s ≡ a → Tidy a (open_in s) (Over o s)
+over a o s kept = ended refl (as_begun a o (open_in s) kept)
+
+ending-tidy : {a b now : Bool} {p : Play} {k : End → State → Play} → ((o : End) (s : State) → AsBegun b o (open_in s) → Tidy a (open_in s) (k o s)) → Tidy b now p → Tidy a now (ending p k)
+ending-tidy {a = a} {b = b} {k = k} next (ended {o = o} {s = s} e h) = subst (λ x. Tidy a x (k o s)) e (next o s (subst (λ x. AsBegun b o x) (sym e) h))
+ending-tidy next (called e may f) = called e may (λ v d. ending-tidy next (f v d))
+
+on_value-tidy : (a : Bool) (k : Tree → State → Play) → Carries a k → (o : End) (s : State) → AsBegun a o (open_in s) → Tidy a (open_in s) (on_value k o s)
+on_value-tidy a k next (Value v) s h = next v s h
+on_value-tidy a k next (Stopped c) s h = ended refl h
+on_value-tidy a k next Quit s h = ended refl tt
+on_value-tidy a k next Closed s h = ended refl tt
+on_value-tidy a k next Starved s h = ended refl tt
+
+sends-tidy : (a : Bool) (c : Request) (s : State) (k : Tree → State → Play) → Carries a k → open_in s ≡ a → Tidy a (open_in s) (calling (Sends c) s k)
+sends-tidy a c s k next kept = called refl tt (λ v d. next v (with_definitions d s) kept)
+
+unless_stopped-tidy : (a : Bool) (o : Option Stop) (s : State) (k : State → Play) → open_in s ≡ a → ((t : State) → open_in t ≡ a → Tidy a (open_in t) (k t)) → Tidy a (open_in s) (unless_stopped o s k)
+unless_stopped-tidy a None s k kept next = next s kept
+unless_stopped-tidy a (Some c) s k kept next = over a _ s kept
+
+stepped-tidy : (a b : Bool) (s : State) (k : State → Play) → open_in s ≡ a → ((t : State) → open_in t ≡ a → Tidy a (open_in t) (k t)) → Tidy a (open_in s) (stepped b s k)
+stepped-tidy a true s k kept next = next _ kept
+stepped-tidy a false s k kept next = over a _ s kept
+
+if_number_left-tidy : (a b : Bool) (s : State) (k : ℕ → State → Play) → open_in s ≡ a → ((n : ℕ) (t : State) → open_in t ≡ a → Tidy a (open_in t) (k n t)) → Tidy a (open_in s) (if_number_left b s k)
+if_number_left-tidy a true s k kept next = over a _ s kept
+if_number_left-tidy a false s k kept next = next _ _ kept
+
+-- ---- sections
+
+-- Leave closes the section, and what stands around began inside none
+leaving-tidy : (a : Bool) → a ≡ false → (k : Tree → State → Play) → Carries a k → (o : End) (s : State) → AsBegun true o (open_in s) → Tidy a (open_in s) (leaving k o s)
+leaving-tidy a outside k next (Value v) s h = called refl (subst T (sym h) tt) (λ w d. next v (opened None (with_definitions d s)) (sym outside))
+leaving-tidy a outside k next (Stopped c) s h = called refl (subst T (sym h) tt) (λ w d. over a _ (opened None (with_definitions d s)) (sym outside))
+leaving-tidy a outside k next Quit s h = ended refl tt
+leaving-tidy a outside k next Closed s h = ended refl tt
+leaving-tidy a outside k next Starved s h = ended refl tt
+
+sectioned-tidy : (a : Bool) (o : Option (List Sym)) (locks : List Sym) (s : State) (x y z : State → Play) → s.open_section ≡ o
+    → (s.open_section ≡ None → Tidy a (open_in s) (x s)) → Tidy a (open_in s) (y s) → Tidy a (open_in s) (z s) → Tidy a (open_in s) (sectioned o locks s x y z)
+sectioned-tidy a None locks s x y z is one two three = one is
+sectioned-tidy a (Some held) locks s x y z is one two three = go (all_among locks held)
+  where
+    go : (chosen : Bool) → Tidy a (open_in s) (by_locks chosen s y z)
+    go true = two
+    go false = three
+
+-- ---- programs
+
+abbrev AllTidy : Evaluator → Type 0
+AllTidy ev = (e : Tree) (s : State) → Tidy (open_in s) (open_in s) (ev e s)
+
+-- the part is evaluated in a state that is inside a section as this one is
+part-tidy : (ev : Evaluator) → AllTidy ev → (e : Tree) (s : State) (a : Bool) → open_in s ≡ a → Tidy a (open_in s) (ev e s)
+part-tidy ev one e s a kept = subst (λ x. Tidy x (open_in s) (ev e s)) kept (one e s)
+
+run-tidy : (set : Setting) (ev : Evaluator) → AllTidy ev → (p : Prog) (s : State) (a : Bool) → open_in s ≡ a → Tidy a (open_in s) (run set ev p s)
+run-tidy set ev one (Done e) s a kept = over a _ s kept
+run-tidy set ev one (Stops c) s a kept = over a _ s kept
+run-tidy set ev one Quits s a kept = over a _ s kept
+run-tidy set ev one (Ask e k) s a kept = ending-tidy (on_value-tidy a _ (λ v t. run-tidy set ev one (k v) t a)) (part-tidy ev one e s a kept)
+run-tidy set ev one (Within ls e k) s a kept =
+    ending-tidy {b = a} (λ o t h. on_value-tidy a (λ v u. run set ev (k v) u) (λ v u. run-tidy set ev one (k v) u a) o (without_locals set.names s.definitions ls t) h) (part-tidy ev one e _ a kept)
+run-tidy set ev one (Section locks e k) s a kept =
+    sectioned-tidy a s.open_section locks s _ _ _ refl
+    (λ none. called refl (subst (λ o. T (not (is_some o))) (sym none) tt) (λ v d.
+    ending-tidy {b = true} (leaving-tidy a (sym kept ∙ ap is_some none) _ (λ w u. run-tidy set ev one (k w) u a)) (one e (opened (Some locks) (with_definitions d s)))))
+    (ending-tidy (on_value-tidy a _ (λ v t. run-tidy set ev one (k v) t a)) (part-tidy ev one e s a kept))
+    (run-tidy set ev one (k _) s a kept)
+run-tidy set ev one (Open k) s a kept = run-tidy set ev one (k s.open_section) s a kept
+run-tidy set ev one (Look symbol k) s a kept = run-tidy set ev one (k _) s a kept
+run-tidy set ev one (Put symbol new p) s a kept = run-tidy set ev one p _ a kept
+run-tidy set ev one (Fresh k) s a kept = if_number_left-tidy a _ s _ kept (λ n t. run-tidy set ev one (k n) t a)
+run-tidy set ev one (Turn p) s a kept = stepped-tidy a _ s _ kept (λ t. run-tidy set ev one p t a)
+run-tidy set ev one (Check e p) s a kept = unless_stopped-tidy a _ s _ kept (λ t. run-tidy set ev one p t a)
+run-tidy set ev one (Outer c k) s a kept = sends-tidy a c s _ (λ v t. run-tidy set ev one (k v) t a) kept
+run-tidy set ev one (Moded k) s a kept = run-tidy set ev one (k set.mode set.kernel) _ a kept
+run-tidy set ev one (Shown k) s a kept = run-tidy set ev one (k set.shown) s a kept
+
+changed-tidy : (set : Setting) (a : Bool) (n : ℕ) (k : Evaluator) → Carries a k → Carries a (changed set n k)
+changed-tidy set a zero k next v s kept = over a _ s kept
+changed-tidy set a (suc n) k next v s kept = stepped-tidy a _ s _ kept (λ t. next v t)
+
+settled-tidy : (set : Setting) (a b : Bool) (n : ℕ) (k : Evaluator) → Carries a k → Carries a (settled b set n k)
+settled-tidy set a true n k next v s kept = over a _ s kept
+settled-tidy set a false n k next v s kept = changed-tidy set a n k next v s kept
+
+judged-tidy : (set : Setting) (a : Bool) (n : ℕ) (k : Evaluator) → Carries a k → (e : Tree) → Carries a (judged set n k e)
+judged-tidy set a n k next e v s kept = unless_stopped-tidy a _ s _ kept (λ t. settled-tidy set a (same v e) n k next v t)
+
+passes-tidy : (set : Setting) (ev : Evaluator) → AllTidy ev → (a : Bool) (n : ℕ) → Carries a (passes set ev n)
+passes-tidy set ev one a zero e s kept =
+    ending-tidy (on_value-tidy a _ (judged-tidy set a zero _ (λ v t. over a _ t) e)) (run-tidy set ev one (pass set.names e) s a kept)
+passes-tidy set ev one a (suc n) e s kept =
+    ending-tidy (on_value-tidy a _ (judged-tidy set a (suc n) _ (λ v t. passes-tidy set ev one a n v t) e)) (run-tidy set ev one (pass set.names e) s a kept)
+
+eval_at-tidy : (set : Setting) (n : ℕ) → AllTidy (eval_at set n)
+eval_at-tidy set zero e s = over (open_in s) _ s refl
+eval_at-tidy set (suc n) e s = passes-tidy set _ (eval_at-tidy set n) (open_in s) set.limits.iteration e s refl
+
+pub whole-tidy : (set : Setting) (d : Definitions) (e : Tree) → Tidy false false (whole set d e)
+whole-tidy set d e = eval_at-tidy set set.limits.recursion e (begun d)

@@ -1,0 +1,10 @@
+mod Script
+mod Recovery
+mod Accesses
+mod Forms
+mod Sections
+mod Bundles
+mod Cuts
+mod Quiet
+mod Events
+mod Texts

@@ -1,0 +1,125 @@
+-- Losses: an item that waits again, a kernel that quits, one that was not started, a pinned item, and recovery by abandoning.
+use Rattle.std.proofs.Common.{◌≡◌, refl, true, false, List, [], ◌∷◌, ◌++◌, Some}
+use Rattle.expr_tree.specs.Tree.{Tree, call}
+use Rattle.semantics.specs.Builtin.{Builtin}
+use Rattle.semantics.specs.Names.{name}
+use Rattle.journal.specs.Entry.{Entry, Event, Wait, Loss}
+use Rattle.journal.specs.Run.{Reading, Out, legal, transcript}
+use Rattle.worked_journals.proofs.Script.{setup, abandoning, names, int, list, of, equals, by, reads, n', f', failed', aborted', increment, share, submit, wait_all, then}
+
+-- n = 0; SetSharedVariable[n]; WaitAll[ParallelSubmit[n++; 7]]; n
+counted : List Reading
+counted = reads (equals n' (int 0) ∷ share n' ∷ wait_all (submit (then (increment n') (int 7))) ∷ n' ∷ [])
+
+-- with one kernel, which is lost at its third entry: the effect came twice, the result once
+counted_again : Tree → List Entry
+counted_again second =
+    by 0 (Event.Submit 1)
+    ∷ by 0 (Event.Yield (Wait.All (1 ∷ [])))
+    ∷ by 1 (Event.Take 1)
+    ∷ by 1 (Event.Access (increment n') (int 0))
+    ∷ by 1 (Event.Lose Loss.Plan)
+    ∷ by 0 (Event.Take 1)
+    ∷ by 0 (Event.Access (increment n') second)
+    ∷ by 0 (Event.Deliver 1 (int 7))
+    ∷ by 0 Event.Resume
+    ∷ by 0 Event.Close
+    ∷ []
+
+retried_legal : legal (setup 1 ((1, 3) ∷ [])) counted (counted_again (int 1)) ≡ true
+unfolding counted counted_again
+retried_legal = refl
+
+retried_lines : transcript (setup 1 ((1, 3) ∷ [])) false counted (counted_again (int 1)) 4 ≡ Some (Out 1 (int 0) ∷ Out 3 (int 7) ∷ Out 4 (int 2) ∷ [])
+unfolding counted counted_again
+retried_lines = refl
+
+-- another reply of the second access
+another_reply : legal (setup 1 ((1, 3) ∷ [])) counted (counted_again (int 0)) ≡ false
+unfolding counted counted_again
+another_reply = refl
+
+-- the same journal where the plan names no loss
+unplanned_loss : legal (setup 1 []) counted (counted_again (int 1)) ≡ false
+unfolding counted counted_again
+unplanned_loss = refl
+
+-- WaitAll[ParallelSubmit[Quit[]]]; $KernelCount
+quitting : List Reading
+quitting = reads (wait_all (submit (of Builtin.Quit [])) ∷ name names Builtin.KernelCount ∷ [])
+
+quitting_journal : List Entry
+quitting_journal =
+    by 0 (Event.Submit 1) ∷ by 0 (Event.Yield (Wait.All (1 ∷ [])))
+    ∷ by 2 (Event.Take 1) ∷ by 2 (Event.Lose Loss.Quit) ∷ by 1 (Event.Take 1) ∷ by 1 (Event.Lose Loss.Quit)
+    ∷ by 0 (Event.Take 1) ∷ by 0 (Event.Deliver 1 aborted')
+    ∷ by 0 Event.Resume ∷ by 0 (Event.Ask 0) ∷ by 0 Event.Close ∷ []
+
+quitting_legal : legal (setup 2 []) quitting quitting_journal ≡ true
+unfolding quitting quitting_journal
+quitting_legal = refl
+
+quitting_lines : transcript (setup 2 []) false quitting quitting_journal 2 ≡ Some (Out 1 aborted' ∷ Out 2 (int 0) ∷ [])
+unfolding quitting quitting_journal
+quitting_lines = refl
+
+everywhere : List Reading
+everywhere = reads (of Builtin.ParallelEvaluate (name names Builtin.KernelID ∷ []) ∷ [])
+
+-- kernel 2 is lost before it takes its item
+everywhere_journal : List Entry
+everywhere_journal =
+    by 0 (Event.Submit 1) ∷ by 0 (Event.Submit 2) ∷ by 0 (Event.Submit 3) ∷ by 0 (Event.Yield (Wait.All (1 ∷ 2 ∷ 3 ∷ [])))
+    ∷ by 2 (Event.Lose Loss.Plan) ∷ by 3 (Event.Take 3) ∷ by 1 (Event.Take 1) ∷ by 1 (Event.Deliver 1 (int 1)) ∷ by 3 (Event.Deliver 3 (int 3))
+    ∷ by 0 Event.Resume ∷ by 0 Event.Close ∷ []
+
+everywhere_legal : legal (setup 3 ((2, 1) ∷ [])) everywhere everywhere_journal ≡ true
+unfolding everywhere everywhere_journal
+everywhere_legal = refl
+
+everywhere_lines : transcript (setup 3 ((2, 1) ∷ [])) false everywhere everywhere_journal 1 ≡ Some (Out 1 (list (int 1 ∷ failed' ∷ int 3 ∷ [])) ∷ [])
+unfolding everywhere everywhere_journal
+everywhere_lines = refl
+
+-- ParallelMap[f, {1, 2}]
+mapped : List Reading
+mapped = reads (of Builtin.ParallelMap (f' ∷ list (int 1 ∷ int 2 ∷ []) ∷ []) ∷ [])
+
+mapped_journal : List Entry
+mapped_journal = by 0 (Event.Submit 1) ∷ by 0 (Event.Yield (Wait.All (1 ∷ []))) ∷ by 1 (Event.Take 1) ∷ by 1 (Event.Lose Loss.Plan) ∷ by 0 Event.Resume ∷ by 0 Event.Close ∷ []
+
+not_started : List Entry
+not_started =
+    by 1 (Event.Lose Loss.NotStarted) ∷ by 0 (Event.Submit 1) ∷ by 0 (Event.Yield (Wait.All (1 ∷ []))) ∷ by 2 (Event.Take 1)
+    ∷ by 2 (Event.Deliver 1 (list (call f' (int 1 ∷ []) ∷ call f' (int 2 ∷ []) ∷ []))) ∷ by 0 Event.Resume ∷ by 0 Event.Close ∷ []
+
+not_started_legal : legal (setup 2 []) mapped not_started ≡ true
+unfolding mapped not_started
+not_started_legal = refl
+
+-- a kernel that takes an item although the plan names its first entry
+plan_ignored : legal (setup 2 ((2, 1) ∷ [])) mapped not_started ≡ false
+unfolding mapped not_started
+plan_ignored = refl
+
+lost_journal : List Entry
+lost_journal =
+    by 0 (Event.Submit 1) ∷ by 0 (Event.Yield (Wait.All (1 ∷ []))) ∷ by 1 (Event.Take 1) ∷ by 1 (Event.Access (increment n') (int 0)) ∷ by 1 (Event.Lose Loss.Plan)
+    ∷ by 0 Event.Resume ∷ by 0 Event.Close ∷ []
+
+abandoned : transcript (abandoning 1 ((1, 3) ∷ [])) false counted lost_journal 4 ≡ Some (Out 1 (int 0) ∷ Out 3 failed' ∷ Out 4 (int 1) ∷ [])
+unfolding counted lost_journal
+abandoned = refl
+
+abandoned_legal : legal (abandoning 1 ((1, 3) ∷ [])) counted lost_journal ≡ true
+unfolding counted lost_journal
+abandoned_legal = refl
+
+-- the same journal is not legal where a lost item waits again
+abandoned_unasked : legal (setup 1 ((1, 3) ∷ [])) counted lost_journal ≡ false
+unfolding counted lost_journal
+abandoned_unasked = refl
+
+batch_abandoned : transcript (abandoning 1 ((1, 2) ∷ [])) false mapped mapped_journal 1 ≡ Some (Out 1 (list (failed' ∷ failed' ∷ [])) ∷ [])
+unfolding mapped mapped_journal
+batch_abandoned = refl

@@ -1,0 +1,2 @@
+//! Worked journals, each computed by the definitions.
+#![tactic(auto)]
