@@ -1,2 +1,4 @@
 pub mod Characters
-pub mod Steps
+pub mod Elements
+pub mod Extents
+pub mod Classes

@@ -22,7 +22,7 @@ pub fn full(alloc: Global, e: &Expr, names: &Names) -> Result<Text, AllocError>
 
 /// Appends the full form.
 #[cycle(put)]
-#[tactic(auto, using(expr_tree::proofs::Callers::tree_steps, crate::proofs::Steps::part_steps))]
+#[tactic(auto, using(expr_tree::proofs::Callers::tree_steps, crate::proofs::Elements::part_steps))]
 fn put_full(buffer: &mut Text, e: &Expr, names: &Names) -> Result<(), AllocError>
     requires { IsKept (length names.now.texts) e.now }
     ensures { OnOk result (buffer.new ≡ buffer.old ++ full (by_texts names.now.texts) e.now) }
@@ -42,7 +42,7 @@ fn put_full(buffer: &mut Text, e: &Expr, names: &Names) -> Result<(), AllocError
 
 /// Appends the full forms of elements, with a comma and a space between them.
 #[cycle(put)]
-#[tactic(auto, using(expr_tree::proofs::Callers::tree_steps, crate::proofs::Steps::part_steps))]
+#[tactic(auto, using(expr_tree::proofs::Callers::tree_steps, crate::proofs::Elements::part_steps))]
 fn put_items(buffer: &mut Text, items: &[Expr], names: &Names) -> Result<(), AllocError>
     requires { AreKept (length names.now.texts) (trees items.now) }
     ensures { OnOk result (buffer.new ≡ buffer.old ++ full_items (by_texts names.now.texts) (trees items.now)) }
