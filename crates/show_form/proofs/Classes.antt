@@ -24,4 +24,3 @@ digit_is c p = go (begins_name c) (is_digit c) p
     go true b p = cc
     go false true p = refl
     go false false p = absurd (sign_no_digit (c == 45) (c == 34) (c == 91) (c == 93) (c == 44) (c == 32) p)
-

@@ -2,3 +2,10 @@ pub mod Characters
 pub mod Elements
 pub mod Extents
 pub mod Classes
+pub mod Kept
+pub mod Renamed
+pub mod Over
+pub mod Going
+pub mod Stands
+pub mod Placed
+pub mod Given

@@ -2,7 +2,7 @@
 --     State                the open frames, the innermost first, and what was read last
 --     step, run            the state after a byte, after a text; None where no full form goes on so
 --     last                 what is whole where the text ends
-use Rattle.std.specs.Prelude.{ℕ, ◌-◌, ◌==◌, ◌&&◌, not, Bool, true, false, List, [], ◌∷◌, ◌++◌, Option, Some, None, option_and_then}
+use Rattle.std.specs.Prelude.{ℕ, ◌-◌, ◌==◌, ◌&&◌, not, Bool, true, false, cond, List, [], ◌∷◌, ◌++◌, Option, Some, None, option_and_then}
 use Rattle.expr_tree.specs.Tree.{Tree, integer, string, symbol}
 use Rattle.expr_tree.specs.Limits.{in_range}
 use Rattle.script_text.specs.Spelling.{spelled}
@@ -123,3 +123,8 @@ whole find (f ∷ frames, mode) = None
 
 abbrev pub first_state : State
 first_state = ([], mo.Starts false)
+
+-- the string that is being read, where no backslash stands before
+abbrev pub plain_text : Mode → Option (List ℕ)
+plain_text (mo.InString escaped s) = cond escaped None (Some s)
+plain_text mode = None

@@ -56,13 +56,14 @@ impl Digits {
     /// With one digit more, where that is in the range.
     pub(crate) fn grow(&self, digit: u8) -> Option<Digits>
         requires { is_digit digit ≡ true }
-        ensures {
-            MatchOption result (in_range (signed self.now.below (grown self.now.magnitude digit)) ≡ false) (λ d.
-                (d ≡ record { below = self.now.below; magnitude = grown self.now.magnitude digit })
-                × (in_range (signed self.now.below (grown self.now.magnitude digit)) ≡ true))
-        }
+        ensures { MatchOption result (in_range (signed self.now.below (grown self.now.magnitude digit)) ≡ false) (λ d.
+            (d ≡ record { below = self.now.below; magnitude = grown self.now.magnitude digit })
+            × (in_range (signed self.now.below (grown self.now.magnitude digit)) ≡ true)) }
     {
-        let magnitude = self.magnitude.checked_mul(10)?.checked_add(u128::from(digit - b'0'))?;
+        let magnitude = self
+            .magnitude
+            .checked_mul(10)?
+            .checked_add(u128::from(digit - b'0'))?;
         if fits(self.below, magnitude) {
             Some(Digits {
                 below: self.below,

@@ -7,9 +7,13 @@ mod extent;
 mod fault;
 mod frame;
 mod full_form;
+mod full_reader;
 mod mode;
 mod stack;
 mod steps;
+mod text_names;
 
 pub use fault::FullFault;
 pub use full_form::full;
+pub use full_reader::read_full;
+pub use text_names::full_names;
