@@ -8,4 +8,6 @@ pub mod Over
 pub mod Going
 pub mod Stands
 pub mod Placed
+pub mod Words
 pub mod Given
+pub mod Answered
