@@ -1,5 +1,5 @@
 -- Steps of the order of names, and of a search in texts.
-use Rattle.std.proofs.Common.{◌≡◌, ◌≢◌, ℕ, suc, ◌+◌, ◌<◌, ◌≤◌, Bool, not, ◌||◌, true, false, cond, List, [], ◌∷◌, length, map, position, get_or, drop, drop-cons, add-one, refl, ap, sym, ◌∙◌, arith, Option, Some, None}
+use Rattle.std.proofs.Common.{◌≡◌, ◌≢◌, ℕ, ◌+◌, ◌<◌, ◌≤◌, Bool, not, ◌||◌, cond, List, [], ◌∷◌, length, map, position, get_or, drop, drop-cons, add-one, refl, ap, arith}
 use Rattle.std.proofs.Math.ListN.{drop_of_length-le}
 use Rattle.std.specs.List.{position_or_len, list_any}
 use Rattle.std.specs.List.Sorted.{IsSortedBy}
@@ -8,8 +8,7 @@ use Rattle.std.proofs.lemmas.Cmp.{nat_list_cmp_total, on_total, then_total, back
 use Rattle.std.proofs.lemmas.List.{get_or-map}
 use Rattle.script_text.specs.Spelling.{lowered, name_cmp}
 use Rattle.std.proofs.Math.ListN.{length-map}
-use Rattle.std.specs.Ordering.{nat_cmp, ordering_then}
-use Rattle.std.specs.Cmp.Lexicographic.{slice_cmp}
+use Rattle.std.specs.Ordering.{ordering_then}
 use Rattle.std.specs.declared.cmp.Ordering.{Ordering}
 use Rattle.std.specs.declared.cmp.Ordering.TheVariants.{Less, Equal, Greater}
 
@@ -25,7 +24,7 @@ at_place xs i p = rw (drop-cons xs i 0 p, add-one)
 pub at_end : (xs : List ℕ) (i : ℕ) → length xs ≤ i → drop i xs ≡ []
 at_end xs i p = drop_of_length-le xs p
 
-place-map : {A B : Type 0} (f : A → B) (p : B → Bool) (xs : List A) → position_or_len p (map f xs) ≡ position_or_len (λ x. p (f x)) xs
+pub place-map : {A B : Type 0} (f : A → B) (p : B → Bool) (xs : List A) → position_or_len p (map f xs) ≡ position_or_len (λ x. p (f x)) xs
 place-map f p [] = refl
 place-map f p (x ∷ xs) = ap (λ n. cond (not (p (f x))) (1 + n) 0) (place-map f p xs)
 

@@ -4,13 +4,13 @@
 --     found                the symbol that a text is read as
 --     row_of               the row of a symbol that is a known name
 --     symbol_name_cmp      the order of symbols by the texts of their bases
-use Rattle.std.specs.Prelude.{◌≡◌, ◌<◌, ℕ, ◌==◌, Bool, List, [], Option, None, get_or, length, map, position, if◌then◌else◌}
+use Rattle.std.specs.Prelude.{◌≡◌, ◌<◌, ℕ, ◌==◌, Bool, List, Option, None, length, map, position, if◌then◌else◌}
 use Rattle.std.specs.List.{list_any}
 use Rattle.std.specs.Str.{bytes_eq}
 use Rattle.std.specs.declared.cmp.Ordering.{Ordering}
 use Rattle.std.specs.Ordering.{nat_cmp, ordering_then}
 use Rattle.expr_tree.specs.declared.sym.Sym.{Sym}
-use Rattle.script_text.specs.Spelling.{Spelled, spelled, by_texts, place_in, name_cmp}
+use Rattle.script_text.specs.Spelling.{spelled, by_texts, place_in, name_cmp}
 
 pub record NameTable : Type 0 where
   pub texts : List (List ℕ)

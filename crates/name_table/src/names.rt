@@ -1,4 +1,4 @@
-ghost use Rattle.std.specs.Prelude.{◌≡◌, ◌<◌, ◌+◌, ◌^◌, ◌++◌, ◌||◌, List, ℕ, map, length, get_or, is_some, string_bytes, true, Some, IfOk, IfSome, OnOk};
+ghost use Rattle.std.specs.Prelude.{◌≡◌, ◌<◌, ◌≤◌, ◌+◌, ◌^◌, ◌++◌, ◌||◌, List, ℕ, map, length, get_or, is_some, string_bytes, true, Some, IfOk, IfSome, OnOk};
 ghost use Rattle.std.specs.List.{list_any};
 ghost use Rattle.std.specs.Str.{bytes_eq};
 ghost use Rattle.indexmap.specs.IndexSet.{contains_text};
@@ -54,11 +54,13 @@ impl Names {
         ensures within { IfSome result (λ s. s.base < length self.now.texts) }
     {
         let name = read_name(text);
-        let place = self.set.get_index_of(name.base)?;
-        Some(Sym {
-            base: place as u32,
-            number: name.number,
-        })
+        match self.set.get_index_of(name.base) {
+            Some(place) => Some(Sym {
+                base: place as u32,
+                number: name.number,
+            }),
+            None => None,
+        }
     }
 
     /// The text of a symbol, with `$` and the number where it is generated.
@@ -114,6 +116,7 @@ impl Names {
     }
 
     /// The row of the known name that the symbol is.
+    #[tactic(auto, using(crate::proofs::Places::place_steps))]
     pub fn row(&self, symbol: Sym) -> Option<usize>
         ensures { result ≡ row_of self.now symbol }
     {
@@ -131,15 +134,20 @@ impl Names {
     /// No two bases have one text.
     pub fn texts_are_distinct(&self)
         ensures { AreDistinct self.now.texts }
-    {}
+    {
+        let _ = &self.set;
+    }
 
     /// Symbols compare as their names do: by the texts of the bases, then by number.
     pub fn symbols_are_in_the_order_of_names(&self)
         ensures { OrdersByName self.now }
-    {}
+    {
+        let _ = &self.set;
+    }
 }
 
 /// The places of the bases of names that are all kept.
+#[tactic(auto, using(crate::proofs::Adding::adding_steps))]
 fn places_of(alloc: Global, set: &IndexSet<String>, names: &Texts) -> Result<Vec<u32>, AllocError>
     requires few { length set.now.keys < 2 ^ 32 }
     requires kept { (t : List ℕ) → list_any (bytes_eq t) (map (λ name. (spelled name).base) names.now) ≡ true → contains_text set.now t ≡ true }
@@ -156,10 +164,10 @@ fn places_of(alloc: Global, set: &IndexSet<String>, names: &Texts) -> Result<Vec
 }
 
 /// Adds the bases of names.
+#[tactic(auto, using(crate::proofs::Adding::adding_steps))]
 fn add_bases(alloc: Global, set: &mut IndexSet<String>, names: &Texts) -> Result<(), AllocError>
-    ensures {
-        OnOk result ((t : List ℕ) → contains_text set.new t ≡ (contains_text set.old t || list_any (bytes_eq t) (map (λ name. (spelled name).base) names.now)))
-    }
+    ensures bases { OnOk result ((t : List ℕ) → contains_text set.new t ≡ (contains_text set.old t || list_any (bytes_eq t) (map (λ name. (spelled name).base) names.now))) }
+    ensures few { OnOk result (length set.new.keys ≤ length set.old.keys + length names.now) }
 {
     for name in names.as_slice() {
         let base = read_name(name.as_str()).base;
