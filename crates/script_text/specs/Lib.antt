@@ -5,3 +5,4 @@ pub mod Full
 pub mod FullForm
 pub mod Reader
 pub mod Laws
+pub mod FullNames

@@ -1,0 +1,13 @@
+pub mod Characters
+pub mod Elements
+pub mod Extents
+pub mod Classes
+pub mod Kept
+pub mod Renamed
+pub mod Over
+pub mod Going
+pub mod Stands
+pub mod Placed
+pub mod Words
+pub mod Given
+pub mod Answered
