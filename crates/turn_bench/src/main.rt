@@ -4,8 +4,7 @@
 mod measure;
 mod worker;
 
-use std::env;
-use std::io;
+use std::{env, io};
 
 fn main(rt: HostRuntime) -> io::Result<()> {
     let asked = match env::args(&rt)?.nth(1) {

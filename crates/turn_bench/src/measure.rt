@@ -4,11 +4,10 @@ ghost use Rattle.std.specs.Prelude.{◌<◌, ◌≤◌};
 use crate::worker;
 use desk_notes::Notes;
 use std::alloc::Global;
-use std::io;
 use std::sync::{Mutex, Wait};
-use std::thread;
 use std::thread::Threads;
 use std::time::{Clock, Duration, Instant};
+use std::{io, thread};
 use turn_desk::Desk;
 
 // Turns of all passes together.
@@ -64,8 +63,11 @@ pub fn mutex_rate<R: Threads + Wait + Clock + Sync>(
     let notes = Mutex::new(no_notes(alloc));
     let turns = turns_each(passes);
     let start = Instant::now(rt)?;
-    thread::map_indices(rt, alloc, passes as usize, &|i| {
-        lock_each(rt, &notes, (i % 1000) as u32, turns)
-    })?;
+    thread::map_indices(
+        rt,
+        alloc,
+        passes as usize,
+        &|i| { lock_each(rt, &notes, (i % 1000) as u32, turns) },
+    )?;
     Ok(rate(TURNS, start.elapsed(rt)?))
 }
