@@ -137,6 +137,14 @@ mutual
       then_chain (tree_cmp t u) (tree_cmp u v) (tree_cmp t v) (trees_cmp ts us) (trees_cmp us vs) (trees_cmp ts vs)
       (tree_chain t u v) (λ e. ap (λ z. tree_cmp z v) (tree_exact t u e)) (λ e. ap (tree_cmp t) (sym (tree_exact u v e))) (trees_chain ts us vs) p q
 
+its_own_reverse : (o : Ordering) → o ≡ ordering_reverse o → o ≡ Equal
+its_own_reverse Less e = absurd (cc)
+its_own_reverse Equal e = refl
+its_own_reverse Greater e = absurd (cc)
+
+pub tree_itself : (a b : Tree) → a ≡ b → tree_cmp a b ≡ Equal
+tree_itself a b e = ap (tree_cmp a) (sym e) ∙ its_own_reverse (tree_cmp a a) (tree_flip a a)
+
 pub tree_cmp_total : IsTotalOrder tree_cmp
 tree_cmp_total = record {
   antisymm = tree_flip;

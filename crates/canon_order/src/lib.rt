@@ -1,7 +1,7 @@
 //! The canonical order of expressions.
 #![tactic(auto)]
 
-ghost use Rattle.std.specs.Prelude.{◌≡◌, length, OnOk, OnErr};
+ghost use Rattle.std.specs.Prelude.{◌≡◌, ◌↔◌, length, OnOk, OnErr};
 ghost use Rattle.std.specs.List.Sorted.{IsPermutation, IsSortedBy};
 ghost use Rattle.std.specs.Cmp.{IsTotalOrder};
 ghost use Rattle.expr_tree.specs.Order.{tree_cmp, trees_cmp, comes_before};
@@ -17,6 +17,8 @@ use std::alloc::{AllocError, Global};
 use std::cmp::Ordering;
 use std::mem;
 
+/// The canonical order: integers by value, strings by bytes, symbols by base and number, then normal expressions by the number of
+/// elements, by head, and by elements from the left.
 #[cycle(order)]
 #[tactic(auto, using(crate::proofs::Steps::order_steps))]
 pub fn compare(a: &Expr, b: &Expr) -> Ordering
@@ -57,13 +59,13 @@ fn compare_items(xs: &[Expr], ys: &[Expr]) -> Ordering
     Ordering::Equal
 }
 
-/// The canonical order is total, and only an expression itself stands beside it.
+/// The canonical order is total, and an expression stands beside itself alone.
 pub fn order_is_total()
     ensures total { IsTotalOrder tree_cmp }
-    ensures exact { (a b : Tree) → tree_cmp a b ≡ Equal → a ≡ b }
+    ensures exact { (a b : Tree) → (tree_cmp a b ≡ Equal) ↔ (a ≡ b) }
 {}
 
-/// Sorts the elements. An `Err` leaves them as they were.
+/// Puts the elements into the canonical order. An `Err` leaves them as they were.
 pub fn put_in_order(alloc: Global, items: &mut Exprs) -> Result<(), AllocError>
     ensures sorted { OnOk result (IsSortedBy comes_before items.new) }
     ensures same { IsPermutation items.old items.new }

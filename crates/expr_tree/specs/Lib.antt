@@ -5,3 +5,6 @@ pub mod Falls
 pub mod Limits
 pub mod Same
 pub mod Order
+pub mod Held
+pub mod Shapes
+pub mod Substitution

@@ -1,4 +1,11 @@
--- An expression as contracts see it, its size and its depth.
+-- Expressions as contracts see them.
+--     Tree                  an integer, a string (its bytes), a symbol, or a head with elements
+--     Trees                 the elements of an expression
+--     elements, trees       these as a list, and a list as these
+--     call                  the expression of a head and a list of elements
+--     count                 the number of elements
+--     size, sizes           the number of atoms in an expression, and in elements
+--     depth, depths         the depth of an expression, which is 1 for an atom; the greatest depth among elements
 use Rattle.std.specs.Prelude.{ℕ, ℤ, ◌+◌, max, List, [], ◌∷◌}
 use Rattle.expr_tree.specs.declared.sym.Sym.{Sym}
 
@@ -9,12 +16,10 @@ mutual
     symbol : Sym → Tree
     normal : Tree → Trees → Tree
 
-  -- the elements of a normal expression
   pub data Trees : Type 0 where
     nil : Trees
     cons : Tree → Trees → Trees
 
--- elements as a list, and back
 abbrev pub elements : Trees → List Tree
 elements nil = []
 elements (cons t ts) = t ∷ elements ts
@@ -23,7 +28,6 @@ abbrev pub trees : List Tree → Trees
 trees [] = nil
 trees (t ∷ ts) = cons t (trees ts)
 
--- the expression h[es]
 abbrev pub call : Tree → List Tree → Tree
 call h es = normal h (trees es)
 
@@ -32,7 +36,6 @@ count nil = 0
 count (cons t ts) = count ts + 1
 
 abbrev mutual
-  -- the atoms in it
   pub size : Tree → ℕ
   size (integer n) = 1
   size (string s) = 1
@@ -50,7 +53,6 @@ abbrev mutual
   depth (symbol s) = 1
   depth (normal h ts) = 1 + max (depth h) (depths ts)
 
-  -- the greatest depth
   pub depths : Trees → ℕ
   depths nil = 0
   depths (cons t ts) = max (depth t) (depths ts)

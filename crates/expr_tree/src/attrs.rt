@@ -1,6 +1,6 @@
 ghost use Rattle.std.specs.Prelude.{◌≡◌, false};
 
-/// The attributes of a symbol, as the language's documentation names them.
+/// The attributes of a symbol, by the names that `SetAttributes` knows them by.
 #[derive(Clone, Copy, Debug, PartialEq, Eq)]
 pub struct Attrs {
     pub flat: bool,

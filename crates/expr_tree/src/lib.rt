@@ -2,17 +2,21 @@
 #![tactic(auto)]
 
 mod attrs;
+mod binders;
 mod built;
 mod expr;
 mod limits;
 mod lists;
+mod shapes;
 mod sym;
 mod text;
 
 pub use attrs::Attrs;
+pub use binders::Binders;
 pub use built::Built;
 pub use expr::{Expr, Exprs, MAX_DEPTH, MAX_SIZE, Node, copy_items, equality_is_exact, may_cross};
 pub use limits::{Limits, Stop};
 pub use lists::{Ids, Syms, Texts};
+pub use shapes::{elements_under, pair_of, pair_under, symbol_of};
 pub use sym::Sym;
 pub use text::Text;

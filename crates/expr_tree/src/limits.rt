@@ -7,9 +7,9 @@ pub struct Limits {
     pub iteration: u32,
     /// Changing passes, turns of loops and guarded bindings: at most 100,000,000.
     pub steps: u64,
-    /// Nodes of a result: at most 4,000,000.
+    /// Atoms of a result: at most 4,000,000.
     pub size: u64,
-    /// Levels of a result: at most 512.
+    /// Depth of a result: at most 512.
     pub depth: u32,
 }
 

@@ -4,8 +4,9 @@ use Rattle.std.specs.Prelude.{◌&&◌}
 use Rattle.std.specs.declared.cmp.Ordering.{Ordering}
 use Rattle.std.specs.declared.cmp.Ordering.TheVariants.{Equal}
 use Rattle.std.specs.Ordering.{is_eq, nat_cmp, ordering_then}
-use Rattle.std.specs.Cmp.{nat_cmp_is, int_cmp_is}
-use Rattle.semantics.specs.Tree.{Sym, Tree, Trees, integer, string, symbol, normal, nil, cons, tree_cmp, trees_cmp, symbol_cmp, text_cmp, count, same, same_symbol}
+use Rattle.std.specs.Cmp.{nat_cmp_is}
+use Rattle.expr_tree.proofs.Same.{tree_eq-refl, symbol_eq-Decides}
+use Rattle.semantics.specs.Tree.{Sym, Tree, text_cmp, same, same_symbol}
 use Rattle.semantics.specs.Program.{Request, Access, Count, Print, Outside, Call, Sends, Enter, Leave}
 use Rattle.semantics.specs.Eval.{same_symbols, same_request, same_call}
 
@@ -15,29 +16,15 @@ then_equal a b e f = rw (e, f) refl
 same_number : (n : ℕ) → nat_cmp n n ≡ Equal
 same_number n = sym (nat_cmp_is n n Equal refl)
 
-pub compare_symbols-self : (s : Sym) → symbol_cmp s s ≡ Equal
-compare_symbols-self s = then_equal _ _ (same_number s.base) (same_number s.number)
-
 pub text_cmp-self : (t : List ℕ) → text_cmp t t ≡ Equal
 text_cmp-self [] = refl
 text_cmp-self (c ∷ t) = then_equal _ _ (same_number c) (text_cmp-self t)
 
-mutual
-  pub compare-self : (e : Tree) → tree_cmp e e ≡ Equal
-  compare-self (integer n) = sym (int_cmp_is n n Equal refl)
-  compare-self (string t) = text_cmp-self t
-  compare-self (symbol s) = compare_symbols-self s
-  compare-self (normal h es) = then_equal _ _ (same_number (count es)) (then_equal _ _ (compare-self h) (compare_items-self es))
-
-  compare_items-self : (es : Trees) → trees_cmp es es ≡ Equal
-  compare_items-self nil = refl
-  compare_items-self (cons e es) = then_equal _ _ (compare-self e) (compare_items-self es)
-
 pub same-self : (e : Tree) → same e e ≡ true
-same-self e = ap is_eq (compare-self e)
+same-self = tree_eq-refl
 
 pub same_symbol-self : (s : Sym) → same_symbol s s ≡ true
-same_symbol-self s = ap is_eq (compare_symbols-self s)
+same_symbol-self s = (symbol_eq-Decides s s).1 refl
 
 pub same_symbols-self : (ss : List Sym) → same_symbols ss ss ≡ true
 same_symbols-self [] = refl

@@ -1,35 +1,17 @@
 -- What is stored for a symbol after another definition was put for one: the law that all who read definitions stand on.
-use Rattle.std.proofs.Common.{◌≡◌, refl, sym, ap, subst, ◌∙◌, ℕ, Bool, true, false, List, [], ◌∷◌, Option, Some, None, is_none, T, true≢false, eqb-true}
+use Rattle.std.proofs.Common.{◌≡◌, refl, sym, ap, subst, ◌∙◌, Bool, true, false, List, [], ◌∷◌, Option, Some, None, is_none, T, true≢false, eqb-true}
 use Rattle.std.specs.Prelude.{◌&&◌, ◌==◌}
 use Rattle.std.specs.declared.cmp.Ordering.{Ordering}
 use Rattle.std.specs.declared.cmp.Ordering.TheVariants.{Less, Equal, Greater}
-use Rattle.std.specs.Ordering.{is_eq, nat_cmp, ordering_then}
-use Rattle.std.specs.Cmp.{ranked, nat_cmp_is}
+use Rattle.expr_tree.proofs.Same.{symbol_eq-Decides}
 use Rattle.semantics.specs.Tree.{Sym, symbol_cmp, same_symbol}
 use Rattle.semantics.specs.Builtin.{Builtin, row_number, rows}
 use Rattle.semantics.specs.Names.{Names}
 use Rattle.semantics.specs.Definitions.{Definition, Definitions, Attributes, same_attributes, first_definition, is_first, is_empty, look_up, drop_entry, add_entry, stored, put}
 use Rattle.semantics.proofs.Script.{row_at}
 
--- ---- symbols are the same only where they are equal
-
-same_numbers : (m n : ℕ) → nat_cmp m n ≡ Equal → m ≡ n
-same_numbers m n e = ranked m n Equal (sym e)
-
-second_equal : (a b : Ordering) → ordering_then a b ≡ Equal → (a ≡ Equal) × (b ≡ Equal)
-second_equal Less b e = absurd (subst (λ o. T (is_eq o)) (sym e) tt)
-second_equal Equal b e = (refl, e)
-second_equal Greater b e = absurd (subst (λ o. T (is_eq o)) (sym e) tt)
-
-is_equal : (o : Ordering) → is_eq o ≡ true → o ≡ Equal
-is_equal Less e = absurd (true≢false (sym e))
-is_equal Equal e = refl
-is_equal Greater e = absurd (true≢false (sym e))
-
 pub same_symbol-eq : (s t : Sym) → same_symbol s t ≡ true → s ≡ t
-same_symbol-eq s t e =
-    let both = second_equal (nat_cmp s.base t.base) (nat_cmp s.number t.number) (is_equal (symbol_cmp s t) e) in
-    λ i. record { base = same_numbers s.base t.base both.0 i; number = same_numbers s.number t.number both.1 i }
+same_symbol-eq s t = (symbol_eq-Decides s t).0
 
 -- ---- attributes are the same only where they are equal
 
@@ -86,7 +68,7 @@ abbrev Entries : Type 0
 Entries = List (Sym × Definition)
 
 same_itself : (s : Sym) → same_symbol s s ≡ true
-same_itself s = subst (λ o. is_eq (ordering_then o (nat_cmp s.number s.number)) ≡ true) (nat_cmp_is s.base s.base Equal refl) (subst (λ o. is_eq o ≡ true) (nat_cmp_is s.number s.number Equal refl) refl)
+same_itself s = (symbol_eq-Decides s s).1 refl
 
 pick : (b : Bool) (c : Bool) {A : Type 0} (x y : A) → b ≡ c → ◌≡◌ {A = A} (elim b [ true ↦ x | false ↦ y ]) (elim c [ true ↦ x | false ↦ y ])
 pick b c x y e = ap (λ a. elim a [ true ↦ x | false ↦ y ]) e

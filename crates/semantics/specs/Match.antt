@@ -139,7 +139,7 @@ same_run (e ∷ es) (f ∷ fs) = elim (same e f) [ true ↦ same_run es fs | fal
 abbrev pub bind : Sym → List Tree → Found → List Found
 bind s run found =
     elim (value_of found.binding s) [
-      | None ↦ record { binding = found.binding ++ record { symbol = s; run = run } ∷ []; guards = found.guards } ∷ []
+      | None ↦ record { binding = found.binding ++ (s, run) ∷ []; guards = found.guards } ∷ []
       | Some old ↦ elim (same_run old run) [ true ↦ found ∷ [] | false ↦ [] ]
     ]
 

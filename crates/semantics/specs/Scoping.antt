@@ -63,7 +63,7 @@ renamed m s = record { base = s.base; number = m }
 
 abbrev pub renaming : ℕ → List Local → Binding
 renaming m [] = []
-renaming m (l ∷ ls) = record { symbol = l.symbol; run = symbol (renamed m l.symbol) ∷ [] } ∷ renaming m ls
+renaming m (l ∷ ls) = (l.symbol, symbol (renamed m l.symbol) ∷ []) ∷ renaming m ls
 
 -- the locals with their new symbols
 abbrev pub with_number : ℕ → List Local → List Local
@@ -94,7 +94,7 @@ values_in [] = Some []
 values_in (l ∷ ls) =
     elim l.value [
       | None ↦ None
-      | Some v ↦ elim (values_in ls) [ None ↦ None | Some b ↦ Some (record { symbol = l.symbol; run = v ∷ [] } ∷ b) ]
+      | Some v ↦ elim (values_in ls) [ None ↦ None | Some b ↦ Some ((l.symbol, v ∷ []) ∷ b) ]
     ]
 
 abbrev pub with_form : Names → Prog → List Local → Tree → Prog
@@ -113,7 +113,7 @@ symbols_in (e ∷ es) = None
 abbrev pub paired : List Sym → List Tree → Option Binding
 paired [] args = Some []
 paired (s ∷ ss) [] = None
-paired (s ∷ ss) (e ∷ es) = elim (paired ss es) [ None ↦ None | Some b ↦ Some (record { symbol = s; run = e ∷ [] } ∷ b) ]
+paired (s ∷ ss) (e ∷ es) = elim (paired ss es) [ None ↦ None | Some b ↦ Some ((s, e ∷ []) ∷ b) ]
 
 abbrev pub parameters : Names → Tree → Option (List Sym)
 parameters names (symbol s) = Some (s ∷ [])
