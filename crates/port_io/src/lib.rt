@@ -1,0 +1,19 @@
+//! Where bytes come from and go to.
+#![tactic(auto)]
+
+mod input;
+mod memory;
+mod roles;
+mod std_io;
+
+pub use input::{ReadNo, read_all};
+use item_list::Items;
+pub use memory::{MemSink, MemSource};
+pub use roles::{Failed, Sink, Source};
+pub use std_io::{StdSink, StdSource};
+
+/// A list of bytes.
+pub type Bytes = Items<u8>;
+
+/// A list of numbers of calls.
+pub type Calls = Items<u64>;
