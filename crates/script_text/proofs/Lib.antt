@@ -1,6 +1,9 @@
-mod Again
+pub mod Again
 mod Unique
 mod Refused
 pub mod Spelled
 mod Endings
 mod Coding
+mod Long
+mod Alike
+mod FirstBad
