@@ -140,7 +140,7 @@ run_alike find other (c ∷ cs) s =
     bind_alike find other cs (step find c s) (step other c (bare s)) (step_alike find other c s.frames s.mode)
     (λ u. run_alike find other cs u) (λ u. run_alike other other cs u)
 
-pub first_alike : (find other : Finder) (t : List ℕ) → seen (run find t first_state) ≡ seen (run other t first_state)
+first_alike : (find other : Finder) (t : List ℕ) → seen (run find t first_state) ≡ seen (run other t first_state)
 first_alike find other t = run_alike find other t first_state
 
 -- ---- stops

@@ -1,9 +1,9 @@
 pub mod Again
-mod Unique
-mod Refused
+pub mod Unique
+pub mod Refused
 pub mod Spelled
 mod Endings
 mod Coding
-mod Long
-mod Alike
-mod FirstBad
+pub mod Long
+pub mod Alike
+pub mod FirstBad
