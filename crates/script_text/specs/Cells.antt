@@ -1,10 +1,15 @@
 -- The cells of a script: the longest runs of lines that are not blank, each as one text with a line feed between its lines.
+--     lines      the texts between line feeds
+--     is_blank      whether a line has only spaces, tabs and carriage returns
+--     runs, all_runs      the runs of lines that are not blank
+--     cells      the texts of the runs
 use Rattle.std.specs.Prelude.{ℕ, Bool, true, false, ◌==◌, map, List, [], ◌∷◌}
 use Rattle.script_text.specs.Bytes.{is_space, all, joined}
 
 abbrev pub Line : Type 0
 Line = List ℕ
 
+-- a byte more at the front of the first line
 abbrev pub in_first : ℕ → List Line → List Line
 in_first c [] = (c ∷ []) ∷ []
 in_first c (l ∷ ls) = (c ∷ l) ∷ ls
@@ -22,6 +27,7 @@ pub record Runs : Type 0 where
   pub first : List Line
   pub others : List (List Line)
 
+-- the run that begins at once is one of the runs unless it is empty
 abbrev pub with_first : List Line → List (List Line) → List (List Line)
 with_first [] rs = rs
 with_first (l ∷ ls) rs = (l ∷ ls) ∷ rs

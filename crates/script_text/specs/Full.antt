@@ -1,4 +1,7 @@
 -- The full form of an expression: every head written out.
+--     escaped, all_escaped, quoted      a byte and the bytes of a string, and the string in its quotes
+--     full      the full form
+--     full_items, full_others      elements with a comma and a space between them, and in front of each
 use Rattle.std.specs.Prelude.{ℕ, ◌==◌, Bool, true, false, List, [], ◌∷◌, ◌++◌, codes}
 use Rattle.std.specs.Fmt.{signed_decimal}
 use Rattle.expr_tree.specs.Tree.{Tree, Trees, integer, string, symbol, normal, nil, cons}
@@ -30,7 +33,6 @@ abbrev mutual
   full spelling (symbol s) = symbol_text spelling s
   full spelling (normal h es) = full spelling h ++ (91 ∷ full_items spelling es ++ (93 ∷ []))
 
-  -- with a comma and a space between them
   pub full_items : Spelling → Trees → List ℕ
   full_items spelling nil = []
   full_items spelling (cons e es) = full spelling e ++ full_others spelling es

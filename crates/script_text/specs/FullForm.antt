@@ -2,6 +2,8 @@
 --     IsSpelled            the symbol's text is a name that is read as this symbol
 --     IsWritten            each symbol of the expression is, and each integer has 128 bits
 --     IsFullFormOf         the text is the full form of the expression
+--     IsFullForm           the text is a full form, by some spelling of the bases
+--     BeginsFullForm       some full form begins with the text
 --     IsFirstBad           the place of the first byte that no full form continues
 use Rattle.std.specs.Prelude.{◌≡◌, ℕ, ◌+◌, ◌≤◌, ◌<◌, List, ◌++◌, length, take, IsTrue}
 use Rattle.expr_tree.specs.declared.sym.Sym.{Sym}
@@ -33,7 +35,6 @@ pub record IsFullFormOf (spelling : Spelling) (e : Tree) (t : List ℕ) : Type 0
 abbrev pub IsFullForm : List ℕ → Type 0
 IsFullForm t = (spelling : Spelling) × (e : Tree) × IsFullFormOf spelling e t
 
--- some full form begins with the text
 abbrev pub BeginsFullForm : List ℕ → Type 0
 BeginsFullForm t = (rest : List ℕ) × IsFullForm (t ++ rest)
 

@@ -1,9 +1,9 @@
--- Laws of printing.
-use Rattle.std.specs.Prelude.{◌≡◌, ℕ, ◌<◌, List, [], ◌++◌, get_or, length, Some, None}
-use Rattle.expr_tree.specs.Tree.{Tree, Trees, integer, string, symbol, normal, nil, cons}
-use Rattle.script_text.specs.Spelling.{place_in}
-use Rattle.script_text.specs.Spelling.{Spelling, by_texts, spelled, number_suffix}
-use Rattle.script_text.specs.FullForm.{BeginsFullForm, IsFullForm, IsFullFormOf}
+-- Laws of full forms and of their reader, each proved by the function of src/ that cites it.
+use Rattle.std.specs.Prelude.{◌≡◌, ℕ, ◌+◌, ◌<◌, ◌≤◌, List, take, [], ◌++◌, get_or, length, Some, None}
+use Rattle.expr_tree.specs.Tree.{Tree, Trees, integer, string, symbol, normal, nil, cons, size, depth}
+use Rattle.script_text.specs.Spelling.{Spelling, by_texts, place_in, spelled, number_suffix}
+use Rattle.script_text.specs.Full.{full}
+use Rattle.script_text.specs.FullForm.{BeginsFullForm, IsFirstBad, IsFullForm, IsFullFormOf, IsWritten}
 use Rattle.script_text.specs.Reader.{State, read, run, first_state}
 
 -- no text stands twice in the list
@@ -38,7 +38,7 @@ ReadAgain =
 abbrev pub StopsRightly : Type 0
 StopsRightly = (find : List ℕ → ℕ) (t rest : List ℕ) → run find t first_state ≡ None → ¬ IsFullForm (t ++ rest)
 
--- What the reader finds unfinished at the end is no full form.
+-- Every full form is read to its end, as some expression, whatever the names are.
 abbrev pub Accepts : Type 0
 Accepts = (find : List ℕ → ℕ) (t : List ℕ) → IsFullForm t → (e : Tree) × (read find t ≡ Some e)
 
@@ -55,3 +55,22 @@ GoesOnRightly =
 -- Texts can be numbered, so the law above says something.
 abbrev pub TextsCanBeNumbered : Type 0
 TextsCanBeNumbered = (find : List ℕ → ℕ) × (spelling : Spelling) × ((w : List ℕ) → spelling (find w) ≡ w)
+
+-- the reader goes over the first k bytes of the text, and then the text ends or it stops
+pub record GoesOver (find : List ℕ → ℕ) (t : List ℕ) (k : ℕ) : Type 0 where
+  pub within : k ≤ length t
+  pub state : State
+  pub goes_on : run find (take k t) first_state ≡ Some state
+  pub stops : k < length t → run find (take (k + 1) t) first_state ≡ None
+
+-- What the reader refuses is refused whatever the names are, so `find` may be any.
+abbrev pub StopsAlike : Type 0
+StopsAlike = (find other : List ℕ → ℕ) (t : List ℕ) → (run find t first_state ≡ None → run other t first_state ≡ None) × (read find t ≡ None → read other t ≡ None)
+
+-- In a text that is not read, the byte at which the reader stops is the first bad one.
+abbrev pub StopsAtFirstBad : Type 0
+StopsAtFirstBad = (find : List ℕ → ℕ) (t : List ℕ) (k : ℕ) → GoesOver find t k → read find t ≡ None → IsFirstBad t k
+
+-- An expression has no more atoms and no more levels than its full form has bytes.
+abbrev pub FullFormIsLong : Type 0
+FullFormIsLong = (spelling : Spelling) (e : Tree) → IsWritten spelling e → (size e ≤ length (full spelling e)) × (depth e ≤ length (full spelling e))

@@ -11,6 +11,7 @@ use Rattle.expr_tree.specs.Limits.{in_range}
 use Rattle.script_text.specs.Bytes.{begins_name, is_digit}
 use Rattle.script_text.specs.Spelling.{Spelled, spelled}
 
+-- the kinds of bytes that the reader tells apart outside strings
 pub data Class : Type 0 where
   Letter Digit Dash Quote Opening Closing Comma Space Other : Class
 

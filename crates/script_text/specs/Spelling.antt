@@ -1,7 +1,9 @@
 -- How symbols are spelled, and the order of names.
 --     Spelled, spelled     the base and the number that a name is read as: `x$12` is (x, 12)
 --     symbol_text          the text of a symbol, by the texts of the bases
+--     by_texts, place_in   the text of a base, and the base of a text, by a list of texts
 --     name_cmp, kept       the order of names; the distinct ones of a list of names, in order
+--     bases                the distinct bases of names, in order
 use Rattle.std.specs.Prelude.{ℕ, zero, suc, ◌+◌, ◌==◌, Bool, true, false, cond, ◌&&◌, leb, not, List, [], ◌∷◌, ◌++◌, map, reverse, length, drop, take, get_or}
 use Rattle.std.specs.declared.cmp.Ordering.{Ordering}
 use Rattle.std.specs.declared.cmp.Ordering.TheVariants.{Less, Equal, Greater}
