@@ -12,7 +12,7 @@ use Rattle.semantics.specs.Sections.{accessed, access_or, unless_access, changes
 use Rattle.semantics.specs.Scoping.{apply_function}
 use Rattle.semantics.specs.Table.{row}
 use Rattle.semantics.specs.Pass.{marked, symbol_rules, up_rules, row_or_stay, built_in, down_rules, last_steps, left_standing, later_steps, symbol_row, own_value, symbol_pass, pass}
-use Rattle.evaluation_relations.proofs.Relate.{Opt, none, some, All, all_nil, all_cons, branch, case, append2}
+use Rattle.evaluation_relations.proofs.Relate.{Opt, none, some, all_nil, all_cons, branch, case, append2}
 use Rattle.evaluation_relations.proofs.Relation.{Like, int, str, sym, node, LikeList, call-like, items-like, listed-like, symbol-like, LikeDefinition, is_call-like, make-like, splice-like, strip-like, has_wrapper-like, flatten-like, thread-like, ordered-like}
 use Rattle.evaluation_relations.proofs.Simulation.{Likeness, Alike, done, ask, look, check, moded}
 use Rattle.evaluation_relations.proofs.Programs.{Sound, later-like, later_list, Later, LaterGives, from_later, now, same_name, try_rules-alike}

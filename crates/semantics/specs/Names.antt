@@ -3,9 +3,9 @@
 --     name, make            the symbol of a row, and row[items]
 --     is_name, is_call      whether an expression is the row's symbol, or row[..]
 --     role_of               the row of a symbol, if it is one
-use Rattle.std.specs.Prelude.{◌≡◌, ℕ, List, [], ◌∷◌, Bool, true, false, ◌&&◌, ◌==◌, Option, Some, None}
+use Rattle.std.specs.Prelude.{◌≡◌, ℕ, List, [], Bool, true, false, ◌&&◌, ◌==◌, Option, Some, None}
 use Rattle.expr_tree.specs.declared.sym.Sym.{Sym}
-use Rattle.expr_tree.specs.Tree.{Tree, integer, string, symbol, normal, elements, call}
+use Rattle.expr_tree.specs.Tree.{Tree, symbol, normal, elements, call}
 use Rattle.semantics.specs.Builtin.{Builtin}
 
 -- `place` is the base of a row's name, and `role` the row that a base is the name of

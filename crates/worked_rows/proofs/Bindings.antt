@@ -1,10 +1,10 @@
 -- The list of all bindings by which a pattern matches, in its order, with the guards that are collected.
-use Rattle.std.proofs.Common.{◌≡◌, refl, Bool, true, false, List, [], ◌∷◌}
+use Rattle.std.proofs.Common.{◌≡◌, refl, Bool, true, false, [], ◌∷◌}
 use Rattle.expr_tree.specs.Substitution.{Binding}
 use Rattle.expr_tree.specs.declared.sym.Sym.{Sym}
-use Rattle.expr_tree.specs.Tree.{Tree, call}
+use Rattle.expr_tree.specs.Tree.{call}
 use Rattle.semantics.specs.Builtin.{Builtin}
-use Rattle.semantics.specs.Match.{Found, Guard, Matching, Test, Cond, matches}
+use Rattle.semantics.specs.Match.{Found, Matching, Test, Cond, matches}
 use Rattle.worked_rows.specs.Sample.{a', apply, b', blank, blanks, condition, f', g', int, items, list, names, numbers, o', of, some_blanks, sym, x', y'}
 
 with_attributes : Bool → Bool → Sym → Matching
