@@ -6,7 +6,7 @@ use Rattle.expr_tree.specs.Tree.{Tree, Trees}
 use Rattle.semantics.specs.Builtin.{Builtin}
 use Rattle.semantics.specs.Names.{Names, is_name}
 use Rattle.semantics.specs.Program.{Prog, look_all}
-use Rattle.semantics.specs.Binding.{Binding}
+use Rattle.expr_tree.specs.Substitution.{Binding}
 use Rattle.semantics.specs.Rule.{Rule, condition_in, result_in, condition_of, result_of}
 use Rattle.semantics.specs.Match.{Guard, Cond, Found, Matching}
 use Rattle.semantics.specs.Definitions.{Definition}

@@ -1,15 +1,18 @@
 -- Relations on symbols, lifted to expressions. What the evaluator computes from related expressions is related, or the same.
 -- The frame law is the instance `t ≡ s, and s in a closed set`; the shift law is the instance `t is s with its number shifted`.
 use Rattle.std.proofs.Common.{◌≡◌, refl, ap, subst, ℕ, zero, suc, Bool, true, false, cond, List, Option, Some, None}
-use Rattle.std.specs.Prelude.{ℤ}
-use Rattle.std.specs.Ordering.{is_eq, is_le}
+use Rattle.std.specs.Prelude.{ℤ, ◌+◌, if◌then◌else◌}
+use Rattle.std.specs.Ordering.{is_le}
 use Rattle.expr_tree.specs.declared.sym.Sym.{Sym}
 use Rattle.expr_tree.specs.Tree.{Tree, integer, string, symbol, normal, Trees, nil, cons, elements, trees, call, size, sizes, depth, depths, count}
 use Rattle.expr_tree.specs.Order.{tree_cmp, trees_cmp, symbol_cmp, same, same_symbol}
 use Rattle.semantics.specs.Builtin.{Builtin}
-use Rattle.semantics.specs.Names.{Names, known, name, is_known, is_name, is_call, items_of, head_of, make, role_of, symbol_of}
+use Rattle.semantics.specs.Names.{Names, known, name, is_known, is_name, is_call, items_of, head_of, make, role_of}
 use Rattle.semantics.specs.Steps.{splice, unwrapped, strip, has_wrapper, is_call_of, flatten_item, flatten_items, flatten, put_in, ordered, all_of_length, first_length, first_or, rest_of, heads_of, tails_of, threads, thread}
-use Rattle.semantics.specs.Binding.{Bound, Binding, value_of, among, symbol_in, assigned_symbol, bound_symbol, bound_symbols, parameter_names, bound_in, without, as_one, put_in_place, put_in_items}
+use Rattle.expr_tree.specs.Same.{trees_eq}
+use Rattle.expr_tree.specs.Shapes.{symbol_of, pair_of, pair_under, elements_under}
+use Rattle.expr_tree.specs.Substitution.{Binding, value_of, among, symbol_in, bound_symbol, bound_symbols, bound_locals, bound_parameters, bound_in, without, value_or_symbol, put_in_items}
+use Rattle.semantics.specs.InPlace.{binders, as_one, put_in_place}
 use Rattle.semantics.specs.Rule.{Rule}
 use Rattle.semantics.specs.Definitions.{Definition}
 use Rattle.semantics.specs.Program.{Local}
@@ -65,12 +68,12 @@ module _ (S : Sym → Sym → Type 0) where
 
   pub count-like : {es fs : Trees} → Likes es fs → count es ≡ count fs
   count-like ends = refl
-  count-like (mores e es) = ap suc (count-like es)
+  count-like (mores e es) = ap (λ n. n + 1) (count-like es)
 
-  pub symbol-like : {e f : Tree} → Like e f → All S (symbol_of e) (symbol_of f)
-  symbol-like int = all_nil
-  symbol-like str = all_nil
-  symbol-like (sym s) = all_cons s all_nil
+  pub symbol-like : {e f : Tree} → Like e f → Opt S (symbol_of e) (symbol_of f)
+  symbol-like int = none
+  symbol-like str = none
+  symbol-like (sym s) = some s
   symbol-like (node h es) = symbol-like h
 
   pub items-like : {e f : Tree} → Like e f → LikeList (items_of e) (items_of f)
@@ -85,8 +88,8 @@ module _ (S : Sym → Sym → Type 0) where
   head-like (sym s) = none
   head-like (node h es) = some h
 
-  abbrev pub LikeBound : Bound → Bound → Type 0
-  LikeBound b c = S b.symbol c.symbol × LikeList b.run c.run
+  abbrev pub LikeBound : Sym × List Tree → Sym × List Tree → Type 0
+  LikeBound b c = S b.0 c.0 × LikeList b.1 c.1
 
   pub record LikeRule (r q : Rule) : Type 0 where
     pub left : Like r.left q.left
@@ -105,6 +108,7 @@ module _ (S : Sym → Sym → Type 0) where
   -- what the relation keeps: the order of symbols, and which symbols are rows of the table
   pub record Faithful (names : Names) : Type 0 where
     pub order : (a b c d : Sym) → S a b → S c d → symbol_cmp a c ≡ symbol_cmp b d
+    pub equals : (a b c d : Sym) → S a b → S c d → same_symbol a c ≡ same_symbol b d
     pub rows : (row : Builtin) (a b : Sym) → S a b → is_known names row a ≡ is_known names row b
     pub roles : (a b : Sym) → S a b → role_of names a ≡ role_of names b
     pub knows : (row : Builtin) → S (known names row) (known names row)
@@ -135,11 +139,33 @@ module _ (S : Sym → Sym → Type 0) where
       compare_items-like (mores e es) ends = refl
       compare_items-like (mores e es) (mores g gs) = rw (compare-like e g, compare_items-like es gs) refl
 
-    pub same-like : {e f g h : Tree} → Like e f → Like g h → same e g ≡ same f h
-    same-like e g = ap is_eq (compare-like e g)
-
     pub same_symbol-like : {a b c d : Sym} → S a b → S c d → same_symbol a c ≡ same_symbol b d
-    same_symbol-like s t = ap is_eq (F.order _ _ _ _ s t)
+    same_symbol-like s t = F.equals _ _ _ _ s t
+
+    mutual
+      pub same-like : {e f g h : Tree} → Like e f → Like g h → same e g ≡ same f h
+      same-like int int = refl
+      same-like int str = refl
+      same-like int (sym t) = refl
+      same-like int (node g fs) = refl
+      same-like str int = refl
+      same-like str str = refl
+      same-like str (sym t) = refl
+      same-like str (node g fs) = refl
+      same-like (sym s) int = refl
+      same-like (sym s) str = refl
+      same-like (sym s) (sym t) = same_symbol-like s t
+      same-like (sym s) (node g fs) = refl
+      same-like (node h es) int = refl
+      same-like (node h es) str = refl
+      same-like (node h es) (sym t) = refl
+      same-like (node h es) (node g fs) = rw (same-like h g, same_items-like es fs) refl
+
+      same_items-like : {es fs gs hs : Trees} → Likes es fs → Likes gs hs → trees_eq es gs ≡ trees_eq fs hs
+      same_items-like ends ends = refl
+      same_items-like ends (mores g gs) = refl
+      same_items-like (mores e es) ends = refl
+      same_items-like (mores e es) (mores g gs) = rw (same-like e g, same_items-like es gs) refl
 
     pub is_name-like : (row : Builtin) {e f : Tree} → Like e f → is_name names row e ≡ is_name names row f
     is_name-like row int = refl
@@ -231,13 +257,21 @@ module _ (S : Sym → Sym → Type 0) where
 
     -- ---- putting in place
 
+    -- the same branch of a choice on both sides
+    either : {B : Type 0} (Q : B → B → Type 0) {a b : Bool} {m n m' n' : B} → a ≡ b → Q m m' → Q n n' → Q (if a then m else n) (if b then m' else n')
+    either Q {a} {b} {m} {n} {m'} {n'} e one other = subst (λ c. Q (if a then m else n) (if c then m' else n')) e (go a)
+      where
+        go : (c : Bool) → Q (if c then m else n) (if c then m' else n')
+        go true = one
+        go false = other
+
     pub value_of-like : {b c : Binding} {s t : Sym} → All LikeBound b c → S s t → Opt LikeList (value_of b s) (value_of c t)
     value_of-like all_nil s = none
-    value_of-like (all_cons b bs) s = branch (Opt LikeList) (same_symbol-like b.0 s) (some b.1) (value_of-like bs s)
+    value_of-like (all_cons b bs) s = either (Opt LikeList) (same_symbol-like b.0 s) (some b.1) (value_of-like bs s)
 
     pub among-like : {s t : Sym} {ss ts : List Sym} → S s t → All S ss ts → among s ss ≡ among t ts
     among-like s all_nil = refl
-    among-like s (all_cons t ts) = branch (◌≡◌ {A = Bool}) (same_symbol-like s t) refl (among-like s ts)
+    among-like s (all_cons t ts) = rw (same_symbol-like s t, among-like s ts) refl
 
     pub symbol_in-like : {e f : Tree} → Like e f → All S (symbol_in e) (symbol_in f)
     symbol_in-like int = all_nil
@@ -245,47 +279,80 @@ module _ (S : Sym → Sym → Type 0) where
     symbol_in-like (sym s) = all_cons s all_nil
     symbol_in-like (node h es) = all_nil
 
-    pub assigned_symbol-like : {es fs : List Tree} → LikeList es fs → All S (assigned_symbol es) (assigned_symbol fs)
-    assigned_symbol-like all_nil = all_nil
-    assigned_symbol-like (all_cons x all_nil) = all_nil
-    assigned_symbol-like (all_cons x (all_cons v all_nil)) = symbol_in-like x
-    assigned_symbol-like (all_cons x (all_cons v (all_cons y ys))) = all_nil
+    abbrev LikePair : Tree × Tree → Tree × Tree → Type 0
+    LikePair a b = Like a.0 b.0 × Like a.1 b.1
 
-    pub bound_symbol-like : {e f : Tree} → Like e f → All S (bound_symbol names e) (bound_symbol names f)
-    bound_symbol-like e = branch (All S) (is_call-like Builtin.Set e) (assigned_symbol-like (items-like e)) (symbol_in-like e)
+    pair_of-like : {es fs : List Tree} → LikeList es fs → Opt LikePair (pair_of es) (pair_of fs)
+    pair_of-like all_nil = none
+    pair_of-like (all_cons x all_nil) = none
+    pair_of-like (all_cons x (all_cons v all_nil)) = some (x, v)
+    pair_of-like (all_cons x (all_cons v (all_cons y ys))) = none
 
-    pub bound_symbols-like : {es fs : List Tree} → LikeList es fs → All S (bound_symbols names es) (bound_symbols names fs)
+    pair_under-like : (row : Builtin) {e f : Tree} → Like e f → Opt LikePair (pair_under (known names row) e) (pair_under (known names row) f)
+    pair_under-like row int = none
+    pair_under-like row str = none
+    pair_under-like row (sym s) = none
+    pair_under-like row (node int es) = none
+    pair_under-like row (node str es) = none
+    pair_under-like row (node (sym s) es) = either (Opt LikePair) (same_symbol-like s (F.knows row)) (pair_of-like (listed-like es)) none
+    pair_under-like row (node (node h fs) es) = none
+
+    elements_under-like : (row : Builtin) {e f : Tree} → Like e f → Opt LikeList (elements_under (known names row) e) (elements_under (known names row) f)
+    elements_under-like row int = none
+    elements_under-like row str = none
+    elements_under-like row (sym s) = none
+    elements_under-like row (node int es) = none
+    elements_under-like row (node str es) = none
+    elements_under-like row (node (sym s) es) = either (Opt LikeList) (same_symbol-like s (F.knows row)) (some (listed-like es)) none
+    elements_under-like row (node (node h fs) es) = none
+
+    bound_symbol-like : {e f : Tree} → Like e f → All S (bound_symbol (binders names) e) (bound_symbol (binders names) f)
+    bound_symbol-like e = case (All S) (pair_under-like Builtin.Set e) (symbol_in-like e) (λ a b both. symbol_in-like both.0)
+
+    bound_symbols-like : {es fs : List Tree} → LikeList es fs → All S (bound_symbols (binders names) es) (bound_symbols (binders names) fs)
     bound_symbols-like all_nil = all_nil
     bound_symbols-like (all_cons e es) = append2 (bound_symbol-like e) (bound_symbols-like es)
 
-    pub parameter_names-like : {e f : Tree} {es fs : List Tree} → Like e f → LikeList es fs → All S (parameter_names names e es) (parameter_names names f fs)
-    parameter_names-like x all_nil = all_nil
-    parameter_names-like x (all_cons y ys) = branch (All S) (is_call-like Builtin.List x) (bound_symbols-like (items-like x)) (symbol_in-like x)
+    bound_locals-like : {es fs : List Tree} → LikeList es fs → All S (bound_locals (binders names) es) (bound_locals (binders names) fs)
+    bound_locals-like all_nil = all_nil
+    bound_locals-like (all_cons x xs) = case (All S) (elements_under-like Builtin.List x) all_nil (λ a b l. bound_symbols-like l)
 
-    pub bound_in-like : {h g : Tree} {es fs : List Tree} → Like h g → LikeList es fs → All S (bound_in names h es) (bound_in names g fs)
-    bound_in-like h all_nil = all_nil
-    bound_in-like h (all_cons x xs) =
-        branch (All S) (rw (is_name-like Builtin.Module h, is_name-like Builtin.With h) refl) (bound_symbols-like (items-like x))
-        (branch (All S) (is_name-like Builtin.Function h) (parameter_names-like x xs) all_nil)
+    bound_parameters-like : {es fs : List Tree} → LikeList es fs → All S (bound_parameters (binders names) es) (bound_parameters (binders names) fs)
+    bound_parameters-like all_nil = all_nil
+    bound_parameters-like (all_cons x all_nil) = all_nil
+    bound_parameters-like (all_cons x (all_cons y ys)) = case (All S) (elements_under-like Builtin.List x) (symbol_in-like x) (λ a b l. bound_symbols-like l)
 
-    pub without-like : {ss ts : List Sym} {b c : Binding} → All S ss ts → All LikeBound b c → All LikeBound (without ss b) (without ts c)
+    bound_in-like : {h g : Tree} {es fs : List Tree} → Like h g → LikeList es fs → All S (bound_in (binders names) h es) (bound_in (binders names) g fs)
+    bound_in-like int es = all_nil
+    bound_in-like str es = all_nil
+    bound_in-like (node h fs) es = all_nil
+    bound_in-like (sym s) es =
+        either (All S) (rw (same_symbol-like s (F.knows Builtin.Module), same_symbol-like s (F.knows Builtin.With)) refl) (bound_locals-like es)
+        (either (All S) (same_symbol-like s (F.knows Builtin.Function)) (bound_parameters-like es) all_nil)
+
+    without-like : {ss ts : List Sym} {b c : Binding} → All S ss ts → All LikeBound b c → All LikeBound (without ss b) (without ts c)
     without-like ss all_nil = all_nil
-    without-like ss (all_cons b bs) = branch (All LikeBound) (among-like b.0 ss) (without-like ss bs) (all_cons b (without-like ss bs))
+    without-like ss (all_cons b bs) = either (All LikeBound) (among-like b.0 ss) (without-like ss bs) (all_cons b (without-like ss bs))
 
     pub as_one-like : {es fs : List Tree} → LikeList es fs → Like (as_one names es) (as_one names fs)
     as_one-like all_nil = make-like Builtin.Sequence all_nil
     as_one-like (all_cons e all_nil) = e
     as_one-like (all_cons e (all_cons f es)) = make-like Builtin.Sequence (all_cons e (all_cons f es))
 
+    value_or_symbol-like : {s t : Sym} {o p : Option (List Tree)} → S s t → Opt LikeList o p
+        → Like (value_or_symbol (known names Builtin.Sequence) s o) (value_or_symbol (known names Builtin.Sequence) t p)
+    value_or_symbol-like s none = sym s
+    value_or_symbol-like s (some run) = as_one-like run
+
     mutual
       pub put_in_place-like : {e f : Tree} (b c : Binding) → All LikeBound b c → Like e f → Like (put_in_place names b e) (put_in_place names c f)
       put_in_place-like b c bs int = int
       put_in_place-like b c bs str = str
-      put_in_place-like b c bs (sym s) = case Like (value_of-like bs s) (sym s) (λ x y run. as_one-like run)
+      put_in_place-like b c bs (sym s) = value_or_symbol-like s (value_of-like bs s)
       put_in_place-like b c bs (node h es) =
           node (put_in_place-like _ _ (without-like (bound_in-like h (listed-like es)) bs) h) (put_in_items-like _ _ (without-like (bound_in-like h (listed-like es)) bs) es)
 
-      pub put_in_items-like : {es fs : Trees} (b c : Binding) → All LikeBound b c → Likes es fs → Likes (put_in_items names b es) (put_in_items names c fs)
+      pub put_in_items-like : {es fs : Trees} (b c : Binding) → All LikeBound b c → Likes es fs → Likes (put_in_items (binders names) b es) (put_in_items (binders names) c fs)
       put_in_items-like b c bs ends = ends
       put_in_items-like b c bs (mores e es) = mores (put_in_place-like b c bs e) (put_in_items-like b c bs es)
 

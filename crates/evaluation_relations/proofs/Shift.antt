@@ -47,6 +47,22 @@ module _ (from by : ℕ) where
   order_kept : (a b : Sym) → symbol_cmp a b ≡ symbol_cmp (moved a) (moved b)
   order_kept a b = ap (ordering_then (nat_cmp a.base b.base)) (same_order a.number b.number)
 
+  -- equal numbers are shifted to equal ones alone
+  stays_apart : (m n : ℕ) → ¬ (m ≡ n) → ¬ (shifted m ≡ shifted n)
+  stays_apart m n other e = go (nat_cmp m n) (ranked m n (nat_cmp m n) refl)
+    where
+      go : (r : Ordering) → MatchOrdering r (m < n) (m ≡ n) (n < m) → ⊥
+      go Less less = omega (arith, rises m n less, e)
+      go Equal equal = other equal
+      go Greater less = omega (arith, rises n m less, e)
+
+  equals_kept : (m n : ℕ) → (m == n) ≡ (shifted m == shifted n)
+  equals_kept m n = go (m == n) refl
+    where
+      go : (b : Bool) → (m == n) ≡ b → (m == n) ≡ (shifted m == shifted n)
+      go true e = e ∙ sym (eq-eqb (shifted m) (shifted n) (ap shifted (eqb-true m n e)))
+      go false e = e ∙ sym (ne_eqb (shifted m) (shifted n) (stays_apart m n (eqb-false m n e)))
+
   -- a bound above 0 leaves the plain names, the rows of the table among them
   module _ (names : Names) (plain : 0 < from) where
     shifted-zero : shifted 0 ≡ 0
@@ -76,6 +92,7 @@ module _ (from by : ℕ) where
     shift_is_faithful =
         record {
           order = λ a b c d e f. rw (e, f) (order_kept a c);
+          equals = λ a b c d e f. rw (e, f) (ap (λ z. (a.base == c.base) && z) (equals_kept a.number c.number));
           rows = λ row a b e. rw e (ap (λ z. z && (a.base == names.place row)) (zero_kept a.number));
           roles = λ a b e. rw e (branch (◌≡◌ {A = Option Builtin}) (zero_kept a.number) refl refl);
           knows = λ row. ap (λ z. record { base = names.place row; number = z }) (sym shifted-zero);

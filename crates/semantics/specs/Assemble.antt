@@ -1,4 +1,10 @@
--- The steps of a pass that a left side of an assignment goes through too: head, elements, splicing, flattening, threading, sorting.
+-- The steps of a pass that the left side of an assignment goes through too: head, elements, splicing, flattening, threading, sorting.
+--     attributes_of         the attributes of a head: those of a symbol, else none
+--     is_asked              whether an element is evaluated: it is not held, or it is Evaluate[x] where that counts
+--     ask_items             the elements from left to right, but for those that are held
+--     first_steps           head, elements and splicing; the expression assembled counts as a result
+--     flattened, threaded, sorted      what Flat, Listable and Orderless do
+--     left_side             the left side of an assignment after all of these steps
 use Rattle.std.specs.Prelude.{List, [], ◌∷◌, ◌++◌, Bool, true, false, ◌&&◌, ◌||◌, not, Option, Some, None}
 use Rattle.expr_tree.specs.Tree.{Tree, symbol, normal, elements, call}
 use Rattle.semantics.specs.Builtin.{Builtin}

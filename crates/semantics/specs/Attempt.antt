@@ -1,4 +1,8 @@
 -- A rule tried on an expression, and a list of rules tried in order.
+--     told                  Flat and Orderless of the symbols that were looked at
+--     try_guards            the guards of a binding in their order, up to the first that is not True
+--     try_binding           the same as one step, where the binding has guards
+--     try_rule, try_rules   `gives` goes on with the result of the first binding, or the first rule, that applies; `otherwise` where none does
 use Rattle.std.specs.Prelude.{List, [], ◌∷◌, ◌++◌, map, true, false}
 use Rattle.expr_tree.specs.declared.sym.Sym.{Sym}
 use Rattle.expr_tree.specs.Tree.{Tree}

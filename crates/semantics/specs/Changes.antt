@@ -1,15 +1,22 @@
 -- Assignment: the rows that change definitions, as programs.
+--     assign                a value or rule attached to all its symbols, or $Failed
+--     set, set_delayed, tag_set, tag_set_delayed      the six forms of assignment
+--     unset                 an own value, or all rules with a left side, taken away
+--     change                an expression made of the old value of a symbol is evaluated and becomes its new value
+--     clear, clear_all, change_attributes, protect, attributes_row      the rows on one symbol
+--     unless_item           a definition of a shared symbol that is no access is refused in an item
 use Rattle.std.specs.Prelude.{ℤ, negsuc, List, [], ◌∷◌, map, Bool, true, false, ◌&&◌, ◌||◌, not, Option, Some, None, is_some}
 use Rattle.expr_tree.specs.declared.sym.Sym.{Sym}
 use Rattle.expr_tree.specs.Tree.{Tree, integer, symbol}
 use Rattle.expr_tree.specs.Order.{same_symbol}
 use Rattle.semantics.specs.Builtin.{Builtin}
-use Rattle.semantics.specs.Names.{Names, name, is_call, items_of, make, role_of, symbol_of}
+use Rattle.semantics.specs.Names.{Names, name, is_call, items_of, make, role_of}
+use Rattle.expr_tree.specs.Shapes.{symbol_of}
 use Rattle.semantics.specs.Steps.{ordered}
 use Rattle.semantics.specs.Rule.{remove, has_left}
 use Rattle.semantics.specs.Definitions.{Definition, Attributes, has}
 use Rattle.semantics.specs.Program.{Prog, Done, Ask, Look, Put, Check, Moded, Item, Seen}
-use Rattle.semantics.specs.Assign.{Form, ToTag, Target, places, refusal, asked_symbols, attached, inner, item_symbols}
+use Rattle.semantics.specs.Assign.{Form, ToTag, Target, places, refusal, asked_symbols, attached, inner, item_symbols, add_symbol}
 use Rattle.semantics.specs.Assemble.{left_side}
 use Rattle.semantics.specs.Control.{failed, null}
 
@@ -76,7 +83,7 @@ tag_set_delayed names stay _ = stay
 
 -- the symbols that may hold something with this left side
 abbrev pub holders : Names → Tree → List Sym
-holders names left = item_symbols (items_of (inner names left)) (symbol_of (inner names left))
+holders names left = item_symbols (items_of (inner names left)) (add_symbol (symbol_of (inner names left)) [])
 
 abbrev pub holds : Tree → Definition → Bool
 holds (symbol s) d = is_some d.own

@@ -1,4 +1,10 @@
--- The control forms: what the control forms ask for, and what they give. `stay` is the program of an expression that has no equation.
+-- The control forms as programs. `stay` is the program of an expression that has no equation.
+--     in_turn, conditional, which, connected      CompoundExpression, If, Which, And and Or
+--     while                 a loop; each evaluation of its test begins a turn
+--     Values, iterator      the values of an iterator, and how its parts are evaluated
+--     over, iterated        the body for each value, and the forms Do, Table and Sum
+--     applied               f[args], evaluated one deeper, as a turn
+--     nest, nest_list, fold, fold_list, fixed_point, select      the turn forms
 use Rattle.std.specs.Prelude.{ℕ, zero, suc, ◌+◌, ◌/◌, ℤ, pos, ◌+ℤ◌, ◌-ℤ◌, int_lt, int_le, nat_abs, List, [], ◌∷◌, reverse, Bool, true, false, ◌&&◌, ◌||◌, Option, Some, None}
 use Rattle.std.specs.Ordering.{int_eq}
 use Rattle.expr_tree.specs.declared.sym.Sym.{Sym}

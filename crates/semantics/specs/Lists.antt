@@ -1,5 +1,10 @@
 -- The rows of lists that are functions of the elements alone. An atom in the place of a list, or a place out of range, has no equation.
-use Rattle.std.specs.Prelude.{ℕ, zero, suc, ◌+◌, ℤ, pos, negsuc, ◌+ℤ◌, List, [], ◌∷◌, ◌++◌, map, reverse, length, take, drop, replicate, ◌-◌, leb, ltb, ◌&&◌, ◌==◌, Bool, true, false, Option, Some, None}
+--     part_of               Part, with a List of places, and places from the end
+--     span, taken, dropped  Take and Drop of n, -n and {n, k}
+--     union, join, flatten_row, partition, transpose      the rows that put lists together or cut them
+--     count_up, range, constant_array, array              the rows that make Lists
+--     map_row, apply, total, released, itself             Map, Apply, Total, ReleaseHold, Identity and Evaluate
+use Rattle.std.specs.Prelude.{ℕ, zero, suc, ◌+◌, ℤ, pos, negsuc, ◌+ℤ◌, List, [], ◌∷◌, ◌++◌, map, reverse, length, take, drop, replicate, ◌-◌, leb, ◌&&◌, ◌==◌, Bool, true, false, Option, Some, None}
 use Rattle.std.specs.Ordering.{int_eq, is_gt}
 use Rattle.expr_tree.specs.Tree.{Tree, integer, string, symbol, normal, Trees, nil, cons, elements, call}
 use Rattle.expr_tree.specs.Order.{same, tree_cmp}

@@ -1,4 +1,8 @@
--- The rows of numbers: Plus, Times, Power and those beside them.
+-- The rows of numbers: Plus, Times, Power and those beside them. A number out of 128 bits is judged on the whole result.
+--     Part, add_part        a number and the rest that it belongs to; equal rests add their numbers
+--     term, factor          an element of a sum as coefficient and rest, one of a product as exponent and base
+--     plus, product, power  the three rows
+--     quotient, modulo, absolute, sign, gcd, factorial, parity, extreme      the other rows
 use Rattle.std.specs.Prelude.{ℕ, zero, suc, ◌*◌, ◌^◌, ◌/◌, ◌%◌, ℤ, pos, negsuc, ◌+ℤ◌, ◌*ℤ◌, ◌-ℤ◌, neg_ℤ, nat_abs, List, [], ◌∷◌, ◌++◌, Bool, true, false, ◌&&◌, ltb, not, ◌==◌, Option, Some, None}
 use Rattle.std.specs.Ordering.{int_eq}
 use Rattle.expr_tree.specs.Tree.{Tree, integer, string, symbol, normal, Trees, nil, cons, trees}

@@ -1,5 +1,9 @@
 -- What an evaluation can do besides computing: a pass, a row of the built-in table and the trial of a rule are programs over these few effects.
 -- A program says nothing of the definitions, limits, mode and calls that it meets; `Play` gives it its meaning.
+--     Mode                  a cell, an item, or the service of an access
+--     Request, Call         what a row asks of the outside; a call of the outside, to which sections add two
+--     Local, Seen           a symbol with its new value; what a program sees of a symbol
+--     Prog                  a program
 use Rattle.std.specs.Prelude.{ℕ, List, [], ◌∷◌, Option}
 use Rattle.expr_tree.specs.declared.sym.Sym.{Sym}
 use Rattle.expr_tree.specs.Tree.{Tree}

@@ -1,4 +1,8 @@
 -- Replacing, and the rows that ask whether a pattern matches.
+--     rule_set              one rule or a List of rules
+--     replaced, rounds      ReplaceAll, and the rounds of ReplaceRepeated
+--     asks                  a pattern as a rule, for the rows that ask whether it matches
+--     match_q, member_q, free_q, count_row, cases      these rows
 use Rattle.std.specs.Prelude.{ℕ, zero, suc, List, [], ◌∷◌, reverse, pos, true, false, ◌||◌, Option, Some, None}
 use Rattle.expr_tree.specs.Tree.{Tree, integer, string, symbol, normal, Trees, nil, cons, elements, call}
 use Rattle.expr_tree.specs.Order.{same}

@@ -1,4 +1,8 @@
 -- Module, Block and With, and the application of a Function.
+--     locals_of             the members of a list of locals: symbols and `symbol = value`
+--     ask_values            their values, evaluated outside the form, from left to right
+--     module_form, block_form, with_form      the three forms
+--     apply_function        Function[..][args]
 use Rattle.std.specs.Prelude.{ℕ, ◌==◌, List, [], ◌∷◌, ◌++◌, Bool, true, false, ◌&&◌, ◌||◌, not, Option, Some, None}
 use Rattle.expr_tree.specs.declared.sym.Sym.{Sym}
 use Rattle.expr_tree.specs.Tree.{Tree, symbol}

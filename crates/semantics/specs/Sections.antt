@@ -1,4 +1,11 @@
--- The mode table: what the parallel forms, sections, Quit and accesses of shared symbols do in a cell, in an item and in a service.
+-- The mode table: what the parallel forms, sections, Quit, Print and accesses of shared symbols do in a cell, in an item and in a service.
+-- A form in a shape that is not named stays, which is decided before any call.
+--     outside_or            one way in a cell outside a section, another one else
+--     outer                 the form as it stands is sent outward
+--     critical_section, quit, print      these rows
+--     parallel_map, parallel_combine, parallel_try, parallel_loop, wait_all      forms that have a sequential meaning
+--     outside_or_failed, outside_only    forms that have none
+--     access_or, unless_access           in an item an access is sent, elsewhere it is an ordinary evaluation
 use Rattle.std.specs.Prelude.{ℕ, List, [], ◌∷◌, ◌++◌, length, leb, Bool, true, false, ◌&&◌, ◌||◌, not, Option, Some, None, is_some}
 use Rattle.expr_tree.specs.declared.sym.Sym.{Sym}
 use Rattle.expr_tree.specs.Tree.{Tree, integer, string, symbol, normal, Trees, nil, cons, call}

@@ -1,4 +1,5 @@
 -- The rows of strings. A string is its bytes in UTF-8; its characters are its Unicode scalar values (`chars`).
+--     string_join, string_length, characters, string_reverse      the four rows
 use Rattle.std.specs.Prelude.{ℕ, pos, List, [], ◌∷◌, ◌++◌, map, length, reverse, Option, Some, None, chars, encode_utf8, encode_utf8_all}
 use Rattle.expr_tree.specs.Tree.{Tree, integer, string}
 use Rattle.semantics.specs.Builtin.{Builtin}

@@ -1,4 +1,6 @@
--- The rows of the built-in table, one equation each. `stay` is the program of an expression whose shape has no equation.
+-- The rows of the built-in table, one equation each.
+--     worked                the rows that are functions of the elements alone
+--     row                   each row as a program; `stay` is the program of an expression whose shape has no equation
 use Rattle.std.specs.Prelude.{pos, negsuc, int_lt, int_le, List, [], ◌∷◌, true, false}
 use Rattle.expr_tree.specs.Tree.{Tree, normal, elements}
 use Rattle.semantics.specs.Builtin.{Builtin}

@@ -1,4 +1,8 @@
--- The rows of comparison and logic, but for And and Or, which evaluate their items in turn.
+-- The rows of comparison and logic, but for And and Or, which evaluate their elements in turn.
+--     equal, unequal        True, False, or nothing where neither is known
+--     compared              integers, each neighbouring pair
+--     all_same, some_same   whether all elements are identical, or some two
+--     asked_of_one          the tests of one element, True or False always
 use Rattle.std.specs.Prelude.{ℤ, List, [], ◌∷◌, Bool, true, false, ◌&&◌, ◌||◌, not, Option, Some, None}
 use Rattle.expr_tree.specs.Tree.{Tree, integer, string, normal}
 use Rattle.expr_tree.specs.Order.{same}

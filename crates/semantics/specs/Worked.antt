@@ -1,5 +1,7 @@
--- What a row of the built-in table makes of its items alone: nothing, an expression, or a number out of range.
-use Rattle.std.specs.Prelude.{ℤ, pos, negsuc, ◌^◌, Bool, true, false, ltb, List, [], ◌∷◌}
+-- What a row of the built-in table makes of its elements alone.
+--     Worked                nothing, an expression, or a number out of range
+--     gives_int             an integer, where it is in range
+use Rattle.std.specs.Prelude.{ℤ, Bool, true, false, List, [], ◌∷◌}
 use Rattle.expr_tree.specs.Limits.{in_range}
 use Rattle.expr_tree.specs.Tree.{Tree, integer}
 

@@ -1,5 +1,5 @@
 -- Sums, products, powers and the other rows of numbers.
-use Rattle.std.proofs.Common.{◌≡◌, refl, List, [], ◌∷◌}
+use Rattle.std.proofs.Common.{◌≡◌, refl, [], ◌∷◌}
 use Rattle.expr_tree.specs.declared.limits.Stop.{Stop}
 use Rattle.semantics.specs.Builtin.{Builtin}
 use Rattle.worked_rows.specs.Sample.{a', apply, b', blank, cells, delayed, equals, fac', int, list, minus, n', null, numbers, of, plus, stopped, symbol_of_row, times, value, x', y'}

@@ -1,5 +1,5 @@
 -- Definitions: their order, refusals and removal.
-use Rattle.std.proofs.Common.{◌≡◌, refl, List, [], ◌∷◌}
+use Rattle.std.proofs.Common.{◌≡◌, refl, [], ◌∷◌}
 use Rattle.semantics.specs.Builtin.{Builtin}
 use Rattle.worked_rows.specs.Sample.{a', apply, area', blank, cells, condition, delayed, equals, f', failed, g', h', int, l', list, m', n', null, numbers, of, p', plus, sq', symbol_of_row, value, x', y'}
 

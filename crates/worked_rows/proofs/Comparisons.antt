@@ -1,5 +1,5 @@
 -- Comparison and logic.
-use Rattle.std.proofs.Common.{◌≡◌, refl, List, [], ◌∷◌}
+use Rattle.std.proofs.Common.{◌≡◌, refl, [], ◌∷◌}
 use Rattle.std.specs.Prelude.{codes}
 use Rattle.expr_tree.specs.Tree.{string}
 use Rattle.semantics.specs.Builtin.{Builtin}

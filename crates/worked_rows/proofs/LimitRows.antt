@@ -1,12 +1,12 @@
 -- The limits: where an evaluation stops, and why.
-use Rattle.std.proofs.Common.{◌≡◌, refl, ℕ, zero, suc, List, [], ◌∷◌}
+use Rattle.std.proofs.Common.{◌≡◌, refl, ℕ, zero, suc, [], ◌∷◌}
 use Rattle.expr_tree.specs.declared.limits.Limits.{Limits}
 use Rattle.expr_tree.specs.declared.limits.Stop.{Stop}
 use Rattle.expr_tree.specs.Tree.{Tree}
 use Rattle.semantics.specs.Builtin.{Builtin}
 use Rattle.semantics.specs.Definitions.{empty}
 use Rattle.semantics.specs.Eval.{eval}
-use Rattle.worked_rows.specs.Sample.{a', apply, b', blank, cells, cells_in, condition, delayed, equals, f', failed, h', in_cell, int, list, n', null, numbers, of, plus, r', replacing, rule, stopped, symbol_of_row, usual, value, x'}
+use Rattle.worked_rows.specs.Sample.{apply, blank, cells, cells_in, condition, delayed, f', h', in_cell, int, null, numbers, of, plus, r', replacing, rule, stopped, symbol_of_row, usual, value, x'}
 
 -- f[f[..[e]..]], so many times
 nested : ℕ → Tree → Tree → Tree

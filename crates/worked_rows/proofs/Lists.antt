@@ -1,5 +1,5 @@
 -- Lists and strings.
-use Rattle.std.proofs.Common.{◌≡◌, refl, List, [], ◌∷◌}
+use Rattle.std.proofs.Common.{◌≡◌, refl, [], ◌∷◌}
 use Rattle.std.specs.Prelude.{codes}
 use Rattle.std.specs.Str.{chars}
 use Rattle.std.specs.Char.{encode_utf8}

@@ -1,5 +1,5 @@
 -- Patterns, guards and replacing.
-use Rattle.std.proofs.Common.{◌≡◌, refl, List, [], ◌∷◌}
+use Rattle.std.proofs.Common.{◌≡◌, refl, [], ◌∷◌}
 use Rattle.expr_tree.specs.Tree.{call}
 use Rattle.semantics.specs.Builtin.{Builtin}
 use Rattle.worked_rows.specs.Sample.{a', apply, b', blank, blanks, cells, condition, equals, f', g', h', int, list, n', null, numbers, o', of, plus, replacing, rule, some_blanks, symbol_of_row, value, x', y'}

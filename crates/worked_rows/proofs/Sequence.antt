@@ -1,5 +1,5 @@
 -- The evaluation sequence: elements, splicing, stripping, attributes, up rules and down rules.
-use Rattle.std.proofs.Common.{◌≡◌, refl, List, [], ◌∷◌}
+use Rattle.std.proofs.Common.{◌≡◌, refl, [], ◌∷◌}
 use Rattle.expr_tree.specs.Tree.{call}
 use Rattle.semantics.specs.Builtin.{Builtin}
 use Rattle.worked_rows.specs.Sample.{a', apply, b', blank, c', cells, delayed, equals, f', g', h', int, list, n', null, numbers, of, plus, q', symbol_of_row, value, x'}

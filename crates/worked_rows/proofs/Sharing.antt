@@ -2,13 +2,13 @@
 use Rattle.std.proofs.Common.{◌≡◌, refl, true, false, List, [], ◌∷◌}
 use Rattle.std.specs.Prelude.{codes}
 use Rattle.expr_tree.specs.declared.limits.Stop.{Stop}
-use Rattle.expr_tree.specs.Tree.{Tree, string, call}
+use Rattle.expr_tree.specs.Tree.{Tree, string}
 use Rattle.semantics.specs.Builtin.{Builtin}
 use Rattle.semantics.specs.Definitions.{Definitions, Variable, Function, empty}
 use Rattle.semantics.specs.Program.{Service, Access, Count, Print, Outside, Sends, Enter, Leave}
 use Rattle.semantics.specs.Play.{Setting, Reply, Replied, Halted, Quit}
 use Rattle.semantics.specs.Eval.{Event, Outcome, Ended, Needs, Wrong, eval}
-use Rattle.worked_rows.specs.Sample.{a', apply, b', blank, c', delayed, equals, f', failed, i', in_cell, in_item, int, j', list, lock', n', null, numbers, of, plus, setting, stopped, sym, symbol_of_row, times, usual, value, x'}
+use Rattle.worked_rows.specs.Sample.{a', apply, b', blank, f', failed, i', in_cell, in_item, int, j', list, lock', n', null, numbers, of, plus, setting, stopped, sym, symbol_of_row, times, usual, value, x'}
 
 in_service : Setting
 in_service = setting Service 0 usual
@@ -82,7 +82,7 @@ unfolding cell
 what_is_no_symbol_is_not_distributed = refl
 
 -- in an item ParallelMap is Map, and ParallelSum[i j, {i, 2}, {j, 2}] is 9
-in_an_item_forms_are_sequential : item (of Builtin.ParallelMap (f' ∷ numbers []  ∷ [])) [] ≡ value (list [])
+in_an_item_forms_are_sequential : item (of Builtin.ParallelMap (f' ∷ numbers [] ∷ [])) [] ≡ value (list [])
 unfolding item sharing
 in_an_item_forms_are_sequential = refl
 

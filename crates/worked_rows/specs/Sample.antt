@@ -10,7 +10,7 @@ use Rattle.expr_tree.specs.declared.limits.Stop.{Stop}
 use Rattle.expr_tree.specs.Tree.{Tree, integer, symbol, call}
 use Rattle.semantics.specs.Builtin.{Builtin, row_number, rows}
 use Rattle.semantics.specs.Names.{Names, name, make}
-use Rattle.semantics.specs.Definitions.{Definitions, Share, empty}
+use Rattle.semantics.specs.Definitions.{Definitions, empty}
 use Rattle.semantics.specs.Program.{Mode, Cell, Item}
 use Rattle.semantics.specs.Play.{Setting, Value, Stopped}
 use Rattle.semantics.specs.Eval.{Outcome, Ended, eval}
