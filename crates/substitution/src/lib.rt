@@ -1,10 +1,10 @@
 //! Putting in place: expressions with runs of expressions in the place of symbols.
 #![tactic(auto)]
 
-ghost use Rattle.std.specs.Prelude.{[]};
 ghost use Rattle.expr_tree.specs.Limits.{Assembles};
 ghost use Rattle.expr_tree.specs.Substitution.{put_in_place};
 
+mod by_names;
 mod count;
 mod lookup;
 mod place;
@@ -12,6 +12,7 @@ mod scope;
 #[cfg(test)]
 mod tests;
 
+pub use by_names::{binders_of, subst};
 use expr_tree::{Binders, Built, Expr, Exprs, MAX_SIZE, Sym};
 use item_list::Items;
 use std::alloc::Global;
