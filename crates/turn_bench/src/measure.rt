@@ -21,12 +21,6 @@ fn rate(turns: u64, time: Duration) -> u128 {
     u128::from(turns) * 1_000_000_000 / time.as_nanos().max(1)
 }
 
-fn no_notes(alloc: Global) -> Notes {
-    Notes {
-        items: Vec::new(alloc),
-    }
-}
-
 /// Each pass adds its entries in turns of its own, in a thread of its own.
 pub fn desk_rate<R: Threads + Wait + Clock + Sync>(
     rt: &R,
@@ -35,7 +29,10 @@ pub fn desk_rate<R: Threads + Wait + Clock + Sync>(
 ) -> io::Result<u128>
     requires { passes < 1000 }
 {
-    let (desk, first) = Desk::new(alloc, no_notes(alloc))?;
+    let book = Notes {
+        items: Vec::new(alloc),
+    };
+    let (desk, first) = Desk::new(alloc, book)?;
     let turns = turns_each(passes);
     let workers = worker::workers(alloc, &desk, first, passes.saturating_sub(1), turns)?;
     let start = Instant::now(rt)?;
@@ -60,7 +57,10 @@ pub fn mutex_rate<R: Threads + Wait + Clock + Sync>(
 ) -> io::Result<u128>
     requires { passes < 1000 }
 {
-    let notes = Mutex::new(no_notes(alloc));
+    let book = Notes {
+        items: Vec::new(alloc),
+    };
+    let notes = Mutex::new(book);
     let turns = turns_each(passes);
     let start = Instant::now(rt)?;
     thread::map_indices(

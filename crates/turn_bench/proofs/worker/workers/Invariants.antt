@@ -3,4 +3,4 @@ use Rattle.desk_notes.specs.Many.{after_splits}
 use Rattle.turn_bench.proofs.worker.workers.Given as goal
 
 abbrev pub invariant-loop-n : goal.invariant-loop-n
-invariant-loop-n g l = l.pass ≡ after_splits l.fn.first l.n
+invariant-loop-n l = l.pass ≡ after_splits l.fn.first l.n
