@@ -1,6 +1,6 @@
 mod Again
 mod Unique
-mod Refused
+pub mod Refused
 pub mod Spelled
-mod Endings
-mod Coding
+pub mod Endings
+pub mod Coding
