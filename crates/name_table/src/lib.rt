@@ -8,3 +8,6 @@ mod spelling;
 pub use name_order::compare_names;
 pub use names::Names;
 pub use spelling::{Spelled, read_name};
+
+#[cfg(test)]
+mod tests;

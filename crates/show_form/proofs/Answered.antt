@@ -1,6 +1,6 @@
 -- What `read_full` answers, from what the program keeps.
 use Rattle.std.proofs.Common.{◌≡◌, refl, sym, ap, subst, ◌∙◌, ℕ, ◌+◌, ◌<◌, ◌≤◌, Bool, true, false, cond, ltb, List, [], length, take, drop, take_all, Option, Some, None, option_and_then, Result, Ok, Err, true≢false, arith, ltb-true, le-leb}
-use Rattle.std.specs.Prelude.{◌&&◌, leb, min}
+use Rattle.std.specs.Prelude.{◌&&◌, leb, min, IfOk, IfErr}
 use Rattle.std.proofs.lemmas.Bool.{leb-true, leb-false, ltb-false}
 use Rattle.std.proofs.lemmas.List.{take-append-drop}
 use Rattle.expr_tree.specs.Tree.{Tree, size, depth}
@@ -106,3 +106,11 @@ module _ (texts : List (List ℕ)) (t : List ℕ) where
 
   pub stopped : (place : ℕ) → IsStop (place_in texts) t place → IsFault texts t (fa.At place)
   stopped place h = let b = first_bad place h in (no_full_form place b, b)
+
+  pub answers_ok : (res : Result Tree FullFault) → Answers res → IfOk res (λ e. IsFullFormOf (by_texts texts) e t)
+  answers_ok (Ok e) a = a
+  answers_ok (Err fault) a = tt
+
+  pub answers_err : (res : Result Tree FullFault) → Answers res → IfErr res (λ fault. IsFault texts t fault)
+  answers_err (Ok e) a = tt
+  answers_err (Err fault) a = a

@@ -35,12 +35,13 @@ same_texts s t e = equal_texts s t (is_equal (text_cmp s t) e)
 -- where a text has a place, it stands there
 pub placed : (texts : List (List ℕ)) (w : List ℕ) → place_in texts w < length texts → get_or texts (place_in texts w) [] ≡ w
 placed [] w h = absurd (omega arith)
-placed (u ∷ us) w h = go (is_eq (text_cmp u w)) refl h
+placed (u ∷ us) w h = go (is_eq (text_cmp u w)) refl h (λ p. placed us w p)
   where
     go : (b : Bool) → is_eq (text_cmp u w) ≡ b → elim b [ true ↦ zero | false ↦ suc (place_in us w) ] < suc (length us)
+        → (place_in us w < length us → get_or us (place_in us w) [] ≡ w)
         → get_or (u ∷ us) (elim b [ true ↦ zero | false ↦ suc (place_in us w) ]) [] ≡ w
-    go true e h = same_texts u w e
-    go false e h = placed us w (omega arith)
+    go true e h further = same_texts u w e
+    go false e h further = further (omega arith)
 
 none_of_both : (a b : Bool) → (a || b) ≡ false → (a ≡ false) × (b ≡ false)
 none_of_both true b e = absurd (true≢false e)
@@ -49,7 +50,7 @@ none_of_both false b e = (refl, e)
 -- one that does not stand in the list gets the list's length
 pub unplaced : (texts : List (List ℕ)) (w : List ℕ) → list_any (bytes_eq w) texts ≡ false → place_in texts w ≡ length texts
 unplaced [] w e = refl
-unplaced (u ∷ us) w e = go (is_eq (text_cmp u w)) refl
+unplaced (u ∷ us) w e = go (is_eq (text_cmp u w)) refl (unplaced us w both.1)
   where
     both : (bytes_eq w u ≡ false) × (list_any (bytes_eq w) us ≡ false)
     both = none_of_both (bytes_eq w u) (list_any (bytes_eq w) us) e
@@ -57,6 +58,6 @@ unplaced (u ∷ us) w e = go (is_eq (text_cmp u w)) refl
     turned : u ≡ w → is_eq (text_cmp w u) ≡ is_eq (text_cmp u w)
     turned q = ap (λ x. is_eq (text_cmp x u)) (sym q) ∙ ap (λ x. is_eq (text_cmp u x)) q
 
-    go : (b : Bool) → is_eq (text_cmp u w) ≡ b → elim b [ true ↦ zero | false ↦ suc (place_in us w) ] ≡ suc (length us)
-    go true p = absurd (true≢false (sym (turned (same_texts u w p) ∙ p) ∙ is_eq-slice_cmp w u ∙ both.0))
-    go false p = ap suc (unplaced us w both.1)
+    go : (b : Bool) → is_eq (text_cmp u w) ≡ b → place_in us w ≡ length us → elim b [ true ↦ zero | false ↦ suc (place_in us w) ] ≡ suc (length us)
+    go true p further = absurd (true≢false (sym (turned (same_texts u w p) ∙ p) ∙ is_eq-slice_cmp w u ∙ both.0))
+    go false p further = ap suc further

@@ -168,21 +168,21 @@ module _ (spelling : Spelling) where
     items_parts : (es : Trees) → AreWritten spelling es → (rest : List ℕ) (tl : List (List ℕ)) → apart rest ≡ [] ∷ tl
         → parts (full_items spelling es ++ (93 ∷ rest)) ≡ all_symbol_texts spelling es ++ filter is_name tl
     items_parts nil w rest tl e = ap (filter is_name) e
-    items_parts (cons d es) w rest tl e = item_parts d es w.0 w.1 rest tl e
-
-    item_parts : (d : Tree) (es : Trees) → IsWritten spelling d → AreWritten spelling es → (rest : List ℕ) (tl : List (List ℕ)) → apart rest ≡ [] ∷ tl
-        → parts ((full spelling d ++ full_others spelling es) ++ (93 ∷ rest)) ≡ (symbol_texts spelling d ++ all_symbol_texts spelling es) ++ filter is_name tl
-    item_parts d es w v rest tl e =
+    items_parts (cons d es) w rest tl e =
         ap parts (append_assoc (full spelling d) (full_others spelling es) (93 ∷ rest))
-        ∙ full_parts d w (full_others spelling es ++ (93 ∷ rest)) (others_tail es rest) (others_apart es rest)
-        ∙ ap (λ u. symbol_texts spelling d ++ u) (others_parts es v rest tl e)
+        ∙ full_parts d w.0 (full_others spelling es ++ (93 ∷ rest)) (others_tail es rest) (others_apart es rest)
+        ∙ ap (λ u. symbol_texts spelling d ++ u) (others_parts es w.1 rest tl e)
         ∙ sym (append_assoc (symbol_texts spelling d) (all_symbol_texts spelling es) (filter is_name tl))
 
     -- behind an item
     others_parts : (es : Trees) → AreWritten spelling es → (rest : List ℕ) (tl : List (List ℕ)) → apart rest ≡ [] ∷ tl
         → filter is_name (others_tail es rest) ≡ all_symbol_texts spelling es ++ filter is_name tl
     others_parts nil w rest tl e = ap (filter is_name) e
-    others_parts (cons f es) w rest tl e = item_parts f es w.0 w.1 rest tl e
+    others_parts (cons f es) w rest tl e =
+        ap parts (append_assoc (full spelling f) (full_others spelling es) (93 ∷ rest))
+        ∙ full_parts f w.0 (full_others spelling es ++ (93 ∷ rest)) (others_tail es rest) (others_apart es rest)
+        ∙ ap (λ u. symbol_texts spelling f ++ u) (others_parts es w.1 rest tl e)
+        ∙ sym (append_assoc (symbol_texts spelling f) (all_symbol_texts spelling es) (filter is_name tl))
 
   pub full_names_are : (e : Tree) → IsWritten spelling e → names_in (full spelling e) ≡ symbol_texts spelling e
   full_names_are e w = ap names_in (sym (append-nil (full spelling e))) ∙ full_parts e w [] [] refl ∙ append-nil (symbol_texts spelling e)

@@ -1,9 +1,9 @@
 -- The names of a text, one byte more.
-use Rattle.std.proofs.Common.{◌≡◌, refl, sym, ap, ◌∙◌, ℕ, ◌<◌, ◌≤◌, Bool, true, false, cond, List, [], ◌∷◌, ◌++◌, append_assoc, length, get_or, drop, drop-cons, add-one, suc, ◌+◌, true≢false, arith, eqb-true}
-use Rattle.std.specs.Prelude.{◌&&◌, ◌||◌, ◌==◌, not, leb}
+use Rattle.std.proofs.Common.{◌≡◌, refl, sym, ap, ◌∙◌, ℕ, ◌<◌, ◌≤◌, Bool, true, false, cond, List, [], ◌∷◌, ◌++◌, append_assoc, length, get_or, drop, drop-cons, add-one, suc, ◌+◌, Result, Ok, Err, true≢false, arith, eqb-true}
+use Rattle.std.specs.Prelude.{◌&&◌, ◌||◌, ◌==◌, not, leb, OnOk}
 use Rattle.std.specs.List.{filter}
 use Rattle.std.proofs.lemmas.Bool.{leb-true}
-use Rattle.std.proofs.lemmas.List.{append-nil}
+use Rattle.std.proofs.lemmas.List.{append-nil, drop_all}
 use Rattle.script_text.specs.Bytes.{is_letter, begins_name, is_digit, in_name, is_name, all}
 use Rattle.script_text.specs.Cells.{in_first}
 use Rattle.script_text.specs.FullNames.{outside, words, names_in}
@@ -92,3 +92,34 @@ name_is_ascii c e =
     (λ x. let h = leb-true c 90 (both_true (leb 65 c) (leb c 90) x).1 in omega arith))
     (λ d. let h = eqb-true c 36 d in omega arith))
     (λ d. let h = leb-true c 57 (both_true (leb 48 c) (leb c 57) d).1 in omega arith)
+
+pub on_ok : {A E : Type 0} (r : Result A E) (P Q : Type 0) → OnOk r P → (P → Q) → OnOk r Q
+on_ok (Ok x) P Q p f = f p
+on_ok (Err e) P Q p f = p
+
+-- a word ends, and the names have it
+pub ended : (before after : List (List ℕ)) (w next done : List ℕ) (c : ℕ) → in_name c ≡ false → next ≡ [] → done ≡ w → after ≡ before ++ named done
+    → (rest : List ℕ) → after ++ names_behind next rest ≡ before ++ names_behind w (c ∷ rest)
+ended before after w next done c e n d p rest =
+    ap (λ v. v ++ names_behind next rest) p
+    ∙ ap (λ v. (before ++ named done) ++ names_behind v rest) n
+    ∙ append_assoc before (named done) (names_behind [] rest)
+    ∙ ap (λ v. before ++ (named v ++ names_behind [] rest)) d
+    ∙ ap (λ v. before ++ v) (word_ends w c rest e)
+
+-- one byte more of the text
+pub byte_taken : (q e : Bool) (t : List ℕ) (i c : ℕ) (into after start : List (List ℕ)) (w v : List ℕ) → i < length t → c ≡ get_or t i 0
+    → ((rest : List ℕ) → after ++ names_behind v rest ≡ into ++ names_behind w (blanked q c ∷ rest))
+    → into ++ names_behind w (outside q e (drop i t)) ≡ start
+    → after ++ names_behind v (outside (quoted_after q e c) (escaped_after q e c) (drop (i + 1) t)) ≡ start
+byte_taken q e t i c into after start w v h is step found =
+    step (outside (quoted_after q e c) (escaped_after q e c) (drop (i + 1) t)) ∙ ap (λ u. into ++ names_behind w u) (sym (outside_at q e t i c h is)) ∙ found
+
+-- the last word
+pub last_word : (q e : Bool) (t : List ℕ) (i : ℕ) (into after start : List (List ℕ)) (w : List ℕ) → length t ≤ i
+    → into ++ names_behind w (outside q e (drop i t)) ≡ start → after ≡ into ++ named w → after ≡ start
+last_word q e t i into after start w h found p =
+    p ∙ ap (λ v. into ++ v) (sym (names_end w q e)) ∙ ap (λ v. into ++ names_behind w (outside q e v)) (sym (drop_all i t h)) ∙ found
+
+pub longer : (a b c m n : List (List ℕ)) → b ≡ a ++ m → c ≡ b ++ n → c ≡ a ++ (m ++ n)
+longer a b c m n p q = q ∙ ap (λ v. v ++ n) p ∙ append_assoc a m n

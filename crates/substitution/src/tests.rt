@@ -1,6 +1,7 @@
-use crate::{Bindings, subst_with};
-use expr_tree::{Binders, Expr, Sym};
+use crate::{Bindings, binders_of, subst, subst_with};
+use expr_tree::{Binders, Expr, Sym, Text, Texts};
 use item_list::Items;
+use name_table::Names;
 use std::alloc::Global;
 use std::test::Fail;
 
@@ -38,6 +39,34 @@ fn runs_are_put_in_but_not_into_a_function_of_the_name(rt: HostRuntime) -> Resul
     let e = call(rt.alloc(), 0, name(1), function.copy(rt.alloc())?)?;
     let wanted = call(rt.alloc(), 0, Expr::int(7), function)?;
     let made = subst_with(rt.alloc(), &binders, &bindings, &e)?;
+    assert!(rt; made.equals(&wanted));
+    Ok(())
+}
+
+fn three(alloc: Global, a: &str, b: &str, c: &str) -> Result<Texts, Fail> {
+    let mut texts = Items::new(alloc);
+    texts.push(Text::of(alloc, a)?)?;
+    texts.push(Text::of(alloc, b)?)?;
+    texts.push(Text::of(alloc, c)?)?;
+    Ok(texts)
+}
+
+// an empty run for List is Sequence[]
+#[test]
+fn a_table_of_names_has_the_binders(rt: HostRuntime) -> Result<(), Fail> {
+    let forms = three(rt.alloc(), "Module", "With", "Function")?;
+    let words = three(rt.alloc(), "List", "Set", "Sequence")?;
+    if forms.len() + words.len() > 6 {
+        return Ok(());
+    }
+    let names = Names::of_texts(rt.alloc(), &forms, &words)?;
+    let Some(binders) = binders_of(&names) else {
+        return Err(Fail::from("no binders"));
+    };
+    let mut bindings: Bindings = Items::new(rt.alloc());
+    bindings.push((binders.list, Items::new(rt.alloc())))?;
+    let made = subst(rt.alloc(), &Expr::symbol(binders.list), &bindings, &names)?;
+    let wanted = Expr::normal(rt.alloc(), Expr::symbol(binders.sequence), Items::new(rt.alloc()))?;
     assert!(rt; made.equals(&wanted));
     Ok(())
 }
