@@ -59,7 +59,7 @@ record Sound (set : Setup) (c : Core) (ps : List Posted) : Type 0 where
   lone : Lone c
   synced : (v : View) → kernel_run set 0 ps ≡ Some v → Synced v.phase (attempt_of c 0)
 
-attempt_after : (set : Setup) (c : Core) (h : Handed) (v : View) (x y : Phase) (e : Event) (row : Kernel)
+pub attempt_after : (set : Setup) (c : Core) (h : Handed) (v : View) (x y : Phase) (e : Event) (row : Kernel)
     → permitted set c h 0 e ≡ true → Synced x (row.attempt) → stand_in_entry set v x e ≡ Some y → Synced y (kernel_after e row).attempt
 attempt_after set c h v (Free d) y (Event.Take id) row ok s q =
     let t = opened (item_of v.items id) (λ i. Some (At id _)) y q in

@@ -85,10 +85,10 @@ Matches (Free d) o = o ≡ None
 Matches (At id a) o = o ≡ Some id
 Matches Lost o = o ≡ None
 
--- a kernel that follows its evaluations has the attempt that it is in
+-- a kernel, or with 0 the stand-in, that follows its evaluations has the attempt that it is in
 abbrev pub PhaseIsAttempt : Type 0
 PhaseIsAttempt =
-    (set : Setup) (k : ℕ) (ps : List Posted) (c : Core) (v : View) → suc k ≤ set.kernels → replay set ps ≡ Some c → kernel_run set (suc k) ps ≡ Some v → Matches v.phase (attempt_of c (suc k))
+    (set : Setup) (k : ℕ) (ps : List Posted) (c : Core) (v : View) → k ≤ set.kernels → replay set ps ≡ Some c → kernel_run set k ps ≡ Some v → Matches v.phase (attempt_of c k)
 
 -- ---- what an item takes with it
 
