@@ -12,7 +12,7 @@ use Rattle.semantics.specs.Sections.{accessed, access_or, unless_access, changes
 use Rattle.semantics.specs.Scoping.{apply_function}
 use Rattle.semantics.specs.Table.{row}
 use Rattle.semantics.specs.Pass.{marked, symbol_rules, up_rules, row_or_stay, built_in, down_rules, last_steps, left_standing, later_steps, symbol_row, own_value, symbol_pass, pass}
-use Rattle.evaluation_relations.proofs.Relate.{Opt, none, some, All, all_nil, all_cons, branch, case, append2}
+use Rattle.evaluation_relations.proofs.Relate.{Opt, none, some, all_nil, all_cons, branch, case, append2}
 use Rattle.evaluation_relations.proofs.Relation.{Like, int, str, sym, node, LikeList, call-like, items-like, listed-like, symbol-like, LikeDefinition, is_call-like, make-like, splice-like, strip-like, has_wrapper-like, flatten-like, thread-like, ordered-like}
 use Rattle.evaluation_relations.proofs.Simulation.{Likeness, Alike, done, ask, look, check, moded}
 use Rattle.evaluation_relations.proofs.Programs.{Sound, later-like, later_list, Later, LaterGives, from_later, now, same_name, try_rules-alike}
@@ -159,10 +159,10 @@ module _ (like : Likeness) (names : Names) (sound : Sound like names) where
       subst (λ kind. Alike like w (access_or x.shared a.1 e p) (access_or y.shared kind f q)) uses.1 (access_or-alike w x.shared y.shared a.1 e f shared both)))
 
   module _ (owed : Rows) where
-    symbol_rules-alike : (w : World) {ss ts : List Sym} {e f : Tree} (p q : Prog) → All (Symbols w) ss ts → Like (Symbols w) e f → Later like names sound w p q
+    symbol_rules-alike : (w : World) {ss ts : Option Sym} {e f : Tree} (p q : Prog) → Opt (Symbols w) ss ts → Like (Symbols w) e f → Later like names sound w p q
         → Alike like w (symbol_rules names ss e p) (symbol_rules names ts f q)
-    symbol_rules-alike w p q all_nil e both = now like names sound w both
-    symbol_rules-alike w p q (all_cons s ss) e both =
+    symbol_rules-alike w p q none e both = now like names sound w both
+    symbol_rules-alike w p q (some s) e both =
         look s (λ a b defined shared. marked-alike w a.shared b.shared shared (try_rules-alike like names sound w _ _ _ _ _ defined.ups e (gives_itself w) both))
 
     up_rules-alike : (w : World) (es : List Tree) {fs : List Tree} {e f : Tree} (p q : Prog) → LikeList (Symbols w) es fs → Like (Symbols w) e f → Later like names sound w p q

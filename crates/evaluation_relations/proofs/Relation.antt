@@ -7,10 +7,10 @@ use Rattle.expr_tree.specs.declared.sym.Sym.{Sym}
 use Rattle.expr_tree.specs.Tree.{Tree, integer, string, symbol, normal, Trees, nil, cons, elements, trees, call, size, sizes, depth, depths, count}
 use Rattle.expr_tree.specs.Order.{tree_cmp, trees_cmp, symbol_cmp, same, same_symbol}
 use Rattle.semantics.specs.Builtin.{Builtin}
-use Rattle.semantics.specs.Names.{Names, known, name, is_known, is_name, is_call, items_of, head_of, make, role_of, symbol_of}
+use Rattle.semantics.specs.Names.{Names, known, name, is_known, is_name, is_call, items_of, head_of, make, role_of}
 use Rattle.semantics.specs.Steps.{splice, unwrapped, strip, has_wrapper, is_call_of, flatten_item, flatten_items, flatten, put_in, ordered, all_of_length, first_length, first_or, rest_of, heads_of, tails_of, threads, thread}
 use Rattle.expr_tree.specs.Same.{trees_eq}
-use Rattle.expr_tree.specs.Shapes.{pair_of, pair_under, elements_under}
+use Rattle.expr_tree.specs.Shapes.{symbol_of, pair_of, pair_under, elements_under}
 use Rattle.expr_tree.specs.Substitution.{Binding, value_of, among, symbol_in, bound_symbol, bound_symbols, bound_locals, bound_parameters, bound_in, without, value_or_symbol, put_in_items}
 use Rattle.semantics.specs.InPlace.{binders, as_one, put_in_place}
 use Rattle.semantics.specs.Rule.{Rule}
@@ -70,10 +70,10 @@ module _ (S : Sym → Sym → Type 0) where
   count-like ends = refl
   count-like (mores e es) = ap (λ n. n + 1) (count-like es)
 
-  pub symbol-like : {e f : Tree} → Like e f → All S (symbol_of e) (symbol_of f)
-  symbol-like int = all_nil
-  symbol-like str = all_nil
-  symbol-like (sym s) = all_cons s all_nil
+  pub symbol-like : {e f : Tree} → Like e f → Opt S (symbol_of e) (symbol_of f)
+  symbol-like int = none
+  symbol-like str = none
+  symbol-like (sym s) = some s
   symbol-like (node h es) = symbol-like h
 
   pub items-like : {e f : Tree} → Like e f → LikeList (items_of e) (items_of f)

@@ -9,6 +9,8 @@ mod limits;
 mod lists;
 mod shapes;
 mod sym;
+#[cfg(test)]
+mod tests;
 mod text;
 
 pub use attrs::Attrs;

@@ -7,7 +7,9 @@ use Rattle.std.specs.Prelude.{List, [], ◌∷◌, ◌++◌, Bool, true, false, 
 use Rattle.expr_tree.specs.declared.sym.Sym.{Sym}
 use Rattle.expr_tree.specs.Tree.{Tree, integer, string, symbol, normal, Trees, nil, cons}
 use Rattle.semantics.specs.Builtin.{Builtin}
-use Rattle.semantics.specs.Names.{Names, is_name, is_call, items_of, symbol_of}
+use Rattle.semantics.specs.Names.{Names, is_name, is_call, items_of}
+use Rattle.expr_tree.specs.Order.{same_symbol}
+use Rattle.expr_tree.specs.Shapes.{symbol_of}
 use Rattle.expr_tree.specs.Substitution.{among}
 use Rattle.semantics.specs.Rule.{insert}
 use Rattle.semantics.specs.Definitions.{Definition}
@@ -46,30 +48,39 @@ abbrev mutual
   inner_first names h nil = normal h nil
   inner_first names h (cons p es) = inner names p
 
-abbrev pub add_symbols : List Sym → List Sym → List Sym
-add_symbols [] ss = ss
-add_symbols (t ∷ ts) ss = elim (among t ss) [ true ↦ add_symbols ts ss | false ↦ add_symbols ts (ss ++ t ∷ []) ]
+-- symbols with one more, where there is one and it does not stand there
+abbrev pub add_symbol : Option Sym → List Sym → List Sym
+add_symbol None ss = ss
+add_symbol (Some s) ss = elim (among s ss) [ true ↦ ss | false ↦ ss ++ s ∷ [] ]
 
 -- the symbols of the items, each once, from left to right
 abbrev pub item_symbols : List Tree → List Sym → List Sym
 item_symbols [] ss = ss
-item_symbols (e ∷ es) ss = item_symbols es (add_symbols (symbol_of e) ss)
+item_symbols (e ∷ es) ss = item_symbols es (add_symbol (symbol_of e) ss)
 
 abbrev pub all_at : Place → List Sym → List Target
 all_at place [] = []
 all_at place (s ∷ ss) = record { symbol = s; place = place } ∷ all_at place ss
 
+abbrev pub at_head : Option Sym → List Target
+at_head None = []
+at_head (Some s) = record { symbol = s; place = Down } ∷ []
+
+abbrev pub is_that : Sym → Option Sym → Bool
+is_that t None = false
+is_that t (Some s) = same_symbol t s
+
 -- where a tag stands: at the head, or as the symbol of an item
 abbrev pub tag_place : Sym → Tree → List Target
 tag_place t p =
-    elim (among t (symbol_of p)) [
+    elim (is_that t (symbol_of p)) [
       | true ↦ elim p [ normal h es ↦ record { symbol = t; place = Down } ∷ [] | _ ↦ [] ]
       | false ↦ elim (among t (item_symbols (items_of p) [])) [ true ↦ record { symbol = t; place = Up } ∷ [] | false ↦ [] ]
     ]
 
 abbrev pub places_in : Form → Tree → List Target
 places_in ToHead (symbol s) = record { symbol = s; place = Own } ∷ []
-places_in ToHead p = all_at Down (symbol_of p)
+places_in ToHead p = at_head (symbol_of p)
 places_in ToItems p = all_at Up (item_symbols (items_of p) [])
 places_in (ToTag t) p = tag_place t p
 
@@ -102,7 +113,7 @@ has_no_symbol names form left =
       | false ↦ elim form [
         | ToHead ↦ elim (places names ToHead left) [ [] ↦ true | _ ↦ false ]
         | ToItems ↦ elim (places names ToItems left) [ [] ↦ true | _ ↦ false ]
-        | ToTag t ↦ elim (symbol_of (inner names left)) [ [] ↦ true | _ ↦ false ]
+        | ToTag t ↦ elim (symbol_of (inner names left)) [ None ↦ true | Some s ↦ false ]
       ]
     ]
 

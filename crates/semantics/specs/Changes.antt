@@ -10,12 +10,13 @@ use Rattle.expr_tree.specs.declared.sym.Sym.{Sym}
 use Rattle.expr_tree.specs.Tree.{Tree, integer, symbol}
 use Rattle.expr_tree.specs.Order.{same_symbol}
 use Rattle.semantics.specs.Builtin.{Builtin}
-use Rattle.semantics.specs.Names.{Names, name, is_call, items_of, make, role_of, symbol_of}
+use Rattle.semantics.specs.Names.{Names, name, is_call, items_of, make, role_of}
+use Rattle.expr_tree.specs.Shapes.{symbol_of}
 use Rattle.semantics.specs.Steps.{ordered}
 use Rattle.semantics.specs.Rule.{remove, has_left}
 use Rattle.semantics.specs.Definitions.{Definition, Attributes, has}
 use Rattle.semantics.specs.Program.{Prog, Done, Ask, Look, Put, Check, Moded, Item, Seen}
-use Rattle.semantics.specs.Assign.{Form, ToTag, Target, places, refusal, asked_symbols, attached, inner, item_symbols}
+use Rattle.semantics.specs.Assign.{Form, ToTag, Target, places, refusal, asked_symbols, attached, inner, item_symbols, add_symbol}
 use Rattle.semantics.specs.Assemble.{left_side}
 use Rattle.semantics.specs.Control.{failed, null}
 
@@ -82,7 +83,7 @@ tag_set_delayed names stay _ = stay
 
 -- the symbols that may hold something with this left side
 abbrev pub holders : Names → Tree → List Sym
-holders names left = item_symbols (items_of (inner names left)) (symbol_of (inner names left))
+holders names left = item_symbols (items_of (inner names left)) (add_symbol (symbol_of (inner names left)) [])
 
 abbrev pub holds : Tree → Definition → Bool
 holds (symbol s) d = is_some d.own

@@ -3,10 +3,9 @@
 --     name, make            the symbol of a row, and row[items]
 --     is_name, is_call      whether an expression is the row's symbol, or row[..]
 --     role_of               the row of a symbol, if it is one
---     symbol_of             the symbol of an expression: itself, or its innermost leftmost head
-use Rattle.std.specs.Prelude.{◌≡◌, ℕ, List, [], ◌∷◌, Bool, true, false, ◌&&◌, ◌==◌, Option, Some, None}
+use Rattle.std.specs.Prelude.{◌≡◌, ℕ, List, [], Bool, true, false, ◌&&◌, ◌==◌, Option, Some, None}
 use Rattle.expr_tree.specs.declared.sym.Sym.{Sym}
-use Rattle.expr_tree.specs.Tree.{Tree, integer, string, symbol, normal, elements, call}
+use Rattle.expr_tree.specs.Tree.{Tree, symbol, normal, elements, call}
 use Rattle.semantics.specs.Builtin.{Builtin}
 
 -- `place` is the base of a row's name, and `role` the row that a base is the name of
@@ -59,10 +58,3 @@ make names row items = call (name names row) items
 abbrev pub truth : Names → Bool → Tree
 truth names true = name names Builtin.True
 truth names false = name names Builtin.False
-
--- the symbol of an expression: itself, or its innermost leftmost head
-abbrev pub symbol_of : Tree → List Sym
-symbol_of (integer n) = []
-symbol_of (string t) = []
-symbol_of (symbol s) = s ∷ []
-symbol_of (normal h es) = symbol_of h

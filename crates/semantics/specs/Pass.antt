@@ -12,7 +12,8 @@ use Rattle.std.specs.Prelude.{pos, List, [], ◌∷◌, true, false, ◌&&◌, n
 use Rattle.expr_tree.specs.declared.sym.Sym.{Sym}
 use Rattle.expr_tree.specs.Tree.{Tree, integer, string, symbol, normal, elements, call}
 use Rattle.semantics.specs.Builtin.{Builtin}
-use Rattle.semantics.specs.Names.{Names, is_known, is_name, make, role_of, symbol_of}
+use Rattle.semantics.specs.Names.{Names, is_known, is_name, make, role_of}
+use Rattle.expr_tree.specs.Shapes.{symbol_of}
 use Rattle.semantics.specs.Steps.{strip, has_wrapper}
 use Rattle.semantics.specs.Definitions.{Attributes, Share, Variable, Function, has}
 use Rattle.semantics.specs.Program.{Prog, Done, Look, Outer, Moded, Seen, Count}
@@ -27,10 +28,10 @@ abbrev pub marked : Option Share → Prog → Prog
 marked None p = p
 marked (Some kind) p = Moded (λ mode kernel. p)
 
--- the up rules of the first of these symbols
-abbrev pub symbol_rules : Names → List Sym → Tree → Prog → Prog
-symbol_rules names [] e otherwise = otherwise
-symbol_rules names (s ∷ ss) e otherwise = Look s (λ seen. marked seen.shared (try_rules names seen.definition.ups e Done otherwise))
+-- the up rules of a symbol, where there is one
+abbrev pub symbol_rules : Names → Option Sym → Tree → Prog → Prog
+symbol_rules names None e otherwise = otherwise
+symbol_rules names (Some s) e otherwise = Look s (λ seen. marked seen.shared (try_rules names seen.definition.ups e Done otherwise))
 
 -- the up rules of the symbol of each item, from left to right
 abbrev pub up_rules : Names → List Tree → Tree → Prog → Prog

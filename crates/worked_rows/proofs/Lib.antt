@@ -9,3 +9,4 @@ mod Turns
 mod LimitRows
 mod Sharing
 mod ByName
+mod Bindings

@@ -1,0 +1,52 @@
+//! Putting in place: expressions with runs of expressions in the place of symbols.
+#![tactic(auto)]
+
+ghost use Rattle.std.specs.Prelude.{[]};
+ghost use Rattle.expr_tree.specs.Limits.{Assembles};
+ghost use Rattle.expr_tree.specs.Substitution.{put_in_place};
+
+mod count;
+mod lookup;
+mod place;
+mod scope;
+#[cfg(test)]
+mod tests;
+
+use expr_tree::{Binders, Built, Expr, Exprs, MAX_SIZE, Sym};
+use item_list::Items;
+use std::alloc::Global;
+
+/// Runs of expressions for symbols. The first run of a symbol counts.
+pub type Bindings = Items<(Sym, Exprs)>;
+
+/// The expression with the run of each bound symbol in its place: a run of one as its element, another in a `Sequence`. A symbol
+/// is put into no inner `Module`, `With` or `Function` that binds it. Levels in which nothing is put are shared with `e`.
+#[tactic(auto, using(crate::proofs::Scopes::scope_steps))]
+pub fn subst_with(
+    alloc: Global,
+    binders: &Binders,
+    bindings: &Bindings,
+    e: &Expr,
+) -> Result<Expr, Built>
+    ensures { Assembles (put_in_place binders.now bindings.now e.now) result }
+{
+    let hidden = Items::new(alloc);
+    match place::put(alloc, binders, bindings, &hidden, e) {
+        Ok(None) => {
+            let _within = (e.size(), e.depth());
+            Ok(e.copy(alloc)?)
+        }
+        Ok(Some(made)) => {
+            let _within = (made.size(), made.depth());
+            Ok(made)
+        }
+        Err(Built::TooDeep) => {
+            if count::nodes_after(alloc, binders, bindings, &hidden, e)? > MAX_SIZE {
+                Err(Built::TooLarge)
+            } else {
+                Err(Built::TooDeep)
+            }
+        }
+        Err(fault) => Err(fault),
+    }
+}
