@@ -1,5 +1,5 @@
 -- A cell has at most one reading, and one syntax offset where it has none.
-use Rattle.std.proofs.Common.{◌≡◌, ℕ, zero, suc, ◌+◌, ◌<◌, ◌≤◌, ◌⊎◌, inl, inr, ⊎_elim, Bool, true, false, ◌||◌, List, [], ◌∷◌, ◌++◌, map, take, drop, length, Option, Some, None, option_and_then, refl, sym, ap, subst, ◌∙◌, arith, append_assoc, append-nil, take_all, length-append, take-append-drop, take-take}
+use Rattle.std.proofs.Common.{◌≡◌, ℕ, suc, ◌<◌, ◌≤◌, ◌⊎◌, inl, inr, ⊎_elim, Bool, true, false, ◌||◌, List, [], ◌∷◌, ◌++◌, map, take, drop, length, Option, Some, None, option_and_then, refl, sym, ap, subst, ◌∙◌, arith, append_assoc, append-nil, take_all, length-append, take-append-drop, take-take}
 use Rattle.std.proofs.lemmas.List.{map-append}
 use Rattle.std.proofs.lemmas.Bool.{cases_order}
 use Rattle.std.proofs.Math.Seq.{take-append_seam}
@@ -7,7 +7,6 @@ use Rattle.std.specs.Prelude.{codes}
 use Rattle.semantics.specs.Builtin.{Builtin}
 use Rattle.semantics.specs.Names.{Names, name}
 use Rattle.expr_tree.specs.Tree.{Tree}
-use Rattle.syntax.specs.Signs.{Sign, sign_text}
 use Rattle.syntax.specs.Operators.{Operator, gives_of, infix_row}
 use Rattle.syntax.specs.Tokens.{Kind, LexFault, lex}
 use Rattle.syntax.specs.Leaves.{Lexeme, lexemes}

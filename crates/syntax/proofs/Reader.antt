@@ -1,6 +1,6 @@
 -- A reader from left to right that keeps what is open on a stack reads what the grammar reads, whatever the constructs give; and where
 -- it does not stop, some reading goes on.
-use Rattle.std.proofs.Common.{◌≡◌, ℕ, zero, suc, ◌+◌, ◌<◌, ◌≤◌, min, Bool, true, false, nat_lt, nat_le, cond, if◌then◌else◌, List, [], ◌∷◌, ◌++◌, length, Option, Some, None, option_and_then, refl, sym, ap, ◌∙◌, subst, lt-ltb, le-leb, le-ltb, arith, le_trans, le_refl, append_assoc, append-nil, leb-true, ltb-true, map}
+use Rattle.std.proofs.Common.{◌≡◌, ℕ, zero, suc, ◌+◌, ◌<◌, ◌≤◌, min, Bool, true, false, nat_lt, nat_le, cond, if◌then◌else◌, List, [], ◌∷◌, ◌++◌, length, Option, Some, None, option_and_then, refl, sym, ap, ◌∙◌, subst, lt-ltb, le-leb, le-ltb, arith, le_trans, append_assoc, append-nil, leb-true, ltb-true, map}
 use Rattle.std.specs.Prelude.{pos}
 use Rattle.expr_tree.specs.Tree.{integer}
 use Rattle.semantics.specs.Builtin.{Builtin}
@@ -67,7 +67,7 @@ module _ (P Q L : Type 0) (A : Constructs P Q L) where
   frame_level (FBeside x) = right_of Operator.Times
   frame_level (FTag x) = 4
   frame_level (FOuter x) = 2
-  frame_level (FTagged head x y) = 3
+  frame_level (FTagged form x y) = 3
 
   unfoldable pub level_at : List Frame → ℕ
   level_at [] = 2
@@ -78,7 +78,7 @@ module _ (P Q L : Type 0) (A : Constructs P Q L) where
   completed (FLeads op) x = Some (A.of_lead op x)
   completed (FJoins op y) x = Some (A.of_join op y x)
   completed (FBeside y) x = Some (A.of_join Operator.Times y x)
-  completed (FTagged head y z) x = Some (A.of_tag head y z x)
+  completed (FTagged form y z) x = Some (A.of_tag form y z x)
   completed _ x = None
 
   unfoldable pub popped : ℕ → Frame → P → Option P
@@ -119,7 +119,7 @@ module _ (P Q L : Type 0) (A : Constructs P Q L) where
   tag_on_top _ = None
 
   abbrev pub joined_by : Option Builtin → Option (P × List Frame) → Operator → List Frame → P → Option State
-  joined_by (Some head) (Some t) op K x = Some (FTagged head t.0 x ∷ t.1, MWant)
+  joined_by (Some form) (Some t) op K x = Some (FTagged form t.0 x ∷ t.1, MWant)
   joined_by _ _ op K x = attached op K x
 
   unfoldable pub joined : Operator → List Frame → P → Option State
@@ -254,7 +254,7 @@ module _ (P Q L : Type 0) (A : Constructs P Q L) where
   completed_level (FBeside z) x y e = right_above Operator.Times
   completed_level (FTag z) x y e = cc
   completed_level (FOuter z) x y e = cc
-  completed_level (FTagged head z v) x y e = omega arith
+  completed_level (FTagged form z v) x y e = omega arith
 
   pub popped_some : (level : ℕ) (F : Frame) (x y : P) → level < frame_level F → completed F x ≡ Some y → popped level F x ≡ Some y
   unfolding popped
@@ -450,8 +450,8 @@ module _ (P Q L : Type 0) (A : Constructs P Q L) where
   join_attached : (op : Operator) (x : P) (h : Option Builtin) (K : List Frame) → tags_of op ≡ h → level_at K ≤ level_of op → joined_by h (tag_on_top K) op K x ≡ attached op K x
   unfolding level_at frame_level tag_on_top
   join_attached op x None K e a = refl
-  join_attached op x (Some head) (FTag y ∷ K) e a = absurd (omega (arith, tags_level op head e))
-  join_attached op x (Some head) _ e a = refl
+  join_attached op x (Some form) (FTag y ∷ K) e a = absurd (omega (arith, tags_level op form e))
+  join_attached op x (Some form) _ e a = refl
 
   attached_here : (op : Operator) (K : List Frame) (x : P) → level_at K ≤ level_of op → A.accepts op x ≡ true → length K < nesting_limit → attached op K x ≡ Some (FJoins op x ∷ K, MWant)
   unfolding attached
@@ -543,26 +543,26 @@ module _ (P Q L : Type 0) (A : Constructs P Q L) where
   tag_stops level K x y = reduce_none level (FTag x) K y (elim (nat_lt level (frame_level (FTag x))) as (λ c. cond {A = Option P} c None None ≡ None) [ true ↦ refl | false ↦ refl ])
 
   -- The sign of an assignment behind a tag.
-  tag_step : {K : List Frame} {ms : List Terminal} {x y : P} {near : ℕ} (u : Terminal) (op : Operator) (head : Builtin) (q : Reaches (FTag x ∷ K) ms y near) →
-      next_of u ≡ Next.Joins op → tags_of op ≡ Some head → 3 < near → step u (q.frames, MHave q.last) ≡ Some (FTagged head x y ∷ K, MWant)
+  tag_step : {K : List Frame} {ms : List Terminal} {x y : P} {near : ℕ} (u : Terminal) (op : Operator) (form : Builtin) (q : Reaches (FTag x ∷ K) ms y near) →
+      next_of u ≡ Next.Joins op → tags_of op ≡ Some form → 3 < near → step u (q.frames, MHave q.last) ≡ Some (FTagged form x y ∷ K, MWant)
   unfolding follows follows_phrase goes_on next_level joined tag_on_top
-  tag_step {K} {ms} {x} {y} u op head q i g n =
-      let three : level_of op ≡ 3 = tags_level op head g in
+  tag_step {K} {ms} {x} {y} u op form q i g n =
+      let three : level_of op ≡ 3 = tags_level op form g in
       rw i (ap (λ p. joined op p.0 p.1) (closes_reduce (level_of op) (omega arith) q.closing ∙ tag_stops (level_of op) K x y) ∙ rw g)
 
-  tag_runs : {K : List Frame} {ls ms : List Terminal} {x y : P} {edge near : ℕ} {op : Operator} {head : Builtin} (t u : Terminal) (rs : List Terminal) → next_of t ≡ Next.Tags → Reaches K ls x edge →
-      level_at K ≤ 3 → 3 < edge → length K < nesting_limit → Reaches (FTag x ∷ K) ms y near → 3 < near → next_of u ≡ Next.Joins op → tags_of op ≡ Some head →
-      run (ls ++ t ∷ (ms ++ u ∷ rs)) (K, MWant) ≡ run rs (FTagged head x y ∷ K, MWant)
+  tag_runs : {K : List Frame} {ls ms : List Terminal} {x y : P} {edge near : ℕ} {op : Operator} {form : Builtin} (t u : Terminal) (rs : List Terminal) → next_of t ≡ Next.Tags → Reaches K ls x edge →
+      level_at K ≤ 3 → 3 < edge → length K < nesting_limit → Reaches (FTag x ∷ K) ms y near → 3 < near → next_of u ≡ Next.Joins op → tags_of op ≡ Some form →
+      run (ls ++ t ∷ (ms ++ u ∷ rs)) (K, MWant) ≡ run rs (FTagged form x y ∷ K, MWant)
   unfolding goes_on next_level
-  tag_runs {K} {ls} {ms} {x} {y} {op = op} {head} t u rs e r a h d q n i g =
+  tag_runs {K} {ls} {ms} {x} {y} {op = op} {form} t u rs e r a h d q n i g =
       extends r t Next.Tags (ms ++ u ∷ rs) e a h ∙
       ap (option_and_then (run (ms ++ u ∷ rs))) (only_at_here 3 K _ a ∙ push_here (FTag x) K d) ∙
       run_last ms rs u (FTag x ∷ K, MWant) (q.frames, MHave q.last) q.runs ∙
-      ap (option_and_then (run rs)) (tag_step u op head q i g n)
+      ap (option_and_then (run rs)) (tag_step u op form q i g n)
 
-  tags_reaches : {K : List Frame} {ls ms : List Terminal} {x y z : P} {edge near far : ℕ} {op : Operator} {head : Builtin} (t u : Terminal) (rs : List Terminal) → next_of t ≡ Next.Tags → Reaches K ls x edge →
-      level_at K ≤ 3 → 3 < edge → length K < nesting_limit → Reaches (FTag x ∷ K) ms y near → 3 < near → next_of u ≡ Next.Joins op → tags_of op ≡ Some head →
-      Reaches (FTagged head x y ∷ K) rs z far → Reaches K (ls ++ t ∷ (ms ++ u ∷ rs)) (A.of_tag head x y z) (min 3 far)
+  tags_reaches : {K : List Frame} {ls ms : List Terminal} {x y z : P} {edge near far : ℕ} {op : Operator} {form : Builtin} (t u : Terminal) (rs : List Terminal) → next_of t ≡ Next.Tags → Reaches K ls x edge →
+      level_at K ≤ 3 → 3 < edge → length K < nesting_limit → Reaches (FTag x ∷ K) ms y near → 3 < near → next_of u ≡ Next.Joins op → tags_of op ≡ Some form →
+      Reaches (FTagged form x y ∷ K) rs z far → Reaches K (ls ++ t ∷ (ms ++ u ∷ rs)) (A.of_tag form x y z) (min 3 far)
   unfolding completed frame_level
   tags_reaches {far = far} t u rs e r a h d q n i g w = under (min 3 far) refl (omega arith) (omega arith) w (tag_runs t u rs e r a h d q n i g)
 
@@ -632,10 +632,10 @@ module _ (P Q L : Type 0) (A : Constructs P Q L) where
         call_reaches t u ts xs e i (phrase_reaches p K a d) (omega arith) k (elements_fill w K (OCall (A.expr_of x)) d)
     phrase_reaches (part {ts = ts} {x = x} {xs = xs} t t' u u' p e e' h k w i i') K a d =
         part_reaches t t' u u' ts xs e e' i i' (phrase_reaches p K a d) (omega arith) k (omega arith) (elements_fill w (FOuter (A.expr_of x) ∷ K) OPart (omega arith))
-    phrase_reaches (tags {rs = rs} {row = head} {x = x} {y = y} t u p e h k q i g r) K a d =
+    phrase_reaches (tags {rs = rs} {row = form} {x = x} {y = y} t u p e h k q i g r) K a d =
         tags_reaches t u rs e (phrase_reaches p K a d) (omega arith) k (omega arith)
         (phrase_reaches q (FTag x ∷ K) (frame_reached (FTag x) K 4 refl) (omega arith)) (edge_above q (omega arith)) i g
-        (phrase_reaches r (FTagged head x y ∷ K) (frame_reached (FTagged head x y) K 3 refl) (omega arith))
+        (phrase_reaches r (FTagged form x y ∷ K) (frame_reached (FTagged form x y) K 3 refl) (omega arith))
 
     whole_settles : {room : ℕ} {ts : List Terminal} {x : P} → WholeOf P Q L A room ts x →
         (K : List Frame) → level_at K ≤ 2 → length K + room ≡ nesting_limit → Settles K ts x
@@ -694,7 +694,7 @@ module _ (P Q L : Type 0) (A : Constructs P Q L) where
   starts-append (FJoins op x ∷ K) ls rs h = tt
   starts-append (FTag x ∷ K) ls rs h = tt
   starts-append (FOuter x ∷ K) ls rs h = absurd h
-  starts-append (FTagged head x y ∷ K) ls rs h = tt
+  starts-append (FTagged form x y ∷ K) ls rs h = tt
 
   -- No outer bracket of a part is the innermost frame.
   abbrev IsInner : List Frame → Type 0
@@ -710,7 +710,7 @@ module _ (P Q L : Type 0) (A : Constructs P Q L) where
   inner (FJoins op x ∷ K) ts h = tt
   inner (FTag x ∷ K) ts h = tt
   inner (FOuter x ∷ K) ts h = absurd h
-  inner (FTagged head x y ∷ K) ts h = tt
+  inner (FTagged form x y ∷ K) ts h = tt
 
   -- A phrase over what stands open.
   pub record Over (room : ℕ) (K : List Frame) (us : List Terminal) (x : P) (edge : ℕ) : Type 0 where
@@ -955,11 +955,11 @@ module _ (P Q L : Type 0) (A : Constructs P Q L) where
   tagged_tokens : (ls us rs : List Terminal) (t u : Terminal) → ls ++ t ∷ (us ++ u ∷ rs) ≡ ((ls ++ t ∷ []) ++ (us ++ u ∷ [])) ++ rs
   tagged_tokens ls us rs t u = sym (simp append_assoc)
 
-  tagged_combines : {r edge near : ℕ} {K : List Frame} {ls us : List Terminal} {x y : P} {op : Operator} (t u : Terminal) (head : Builtin) → Over (suc r) K ls x edge → next_of t ≡ Next.Tags → level_at K ≤ 3 → 3 < edge →
-      PhraseOf P Q L A r 4 us y near → next_of u ≡ Next.Joins op → tags_of op ≡ Some head → Combines r (FTagged head x y) K ((ls ++ t ∷ []) ++ (us ++ u ∷ []))
+  tagged_combines : {r edge near : ℕ} {K : List Frame} {ls us : List Terminal} {x y : P} {op : Operator} (t u : Terminal) (form : Builtin) → Over (suc r) K ls x edge → next_of t ≡ Next.Tags → level_at K ≤ 3 → 3 < edge →
+      PhraseOf P Q L A r 4 us y near → next_of u ≡ Next.Joins op → tags_of op ≡ Some form → Combines r (FTagged form x y) K ((ls ++ t ∷ []) ++ (us ++ u ∷ []))
   unfolding completed frame_level level_at
-  tagged_combines {r} {edge} {near} {K} {ls} {us} {x} {y} {op} t u head o e a h q i g = record {
-    value = A.of_tag head x y;
+  tagged_combines {r} {edge} {near} {K} {ls} {us} {x} {y} {op} t u form o e a h q i g = record {
+    value = A.of_tag form x y;
     completes = λ z. refl;
     tall = λ w. absurd (omega arith);
     over = λ rs z far p. over_as (ls ++ t ∷ (us ++ u ∷ rs)) (((ls ++ t ∷ []) ++ (us ++ u ∷ [])) ++ rs) (tagged_tokens ls us rs t u)
@@ -985,29 +985,29 @@ module _ (P Q L : Type 0) (A : Constructs P Q L) where
   in_tag y K (combining F k c) = let e : None ≡ Some (c.value y) = c.completes y in cc
   in_tag y K (tagging {edge = edge} {ts = ts} {us = us} t k o a h e) = record { edge = edge; t = t; ts = ts; ls = us; frames = k; over = o; low = a; above = h; sign = e; tokens = refl }
 
-  assign_sounds : {room near : ℕ} {y : P} {K : List Frame} {all us : List Terminal} {x : P} {op : Operator} (t : Terminal) (head : Builtin) → tags_of op ≡ Some head → next_of t ≡ Next.Joins op →
-      Tags room y K all → Over room (FTag y ∷ K) us x near → Wants (FTagged head y x ∷ K) (all ++ (us ++ t ∷ []))
+  assign_sounds : {room near : ℕ} {y : P} {K : List Frame} {all us : List Terminal} {x : P} {op : Operator} (t : Terminal) (form : Builtin) → tags_of op ≡ Some form → next_of t ≡ Next.Joins op →
+      Tags room y K all → Over room (FTag y ∷ K) us x near → Wants (FTagged form y x ∷ K) (all ++ (us ++ t ∷ []))
   unfolding level_at frame_level
-  assign_sounds {room} {near} {y} {K} {all} {us} {x} {op} t head g e w q = record {
+  assign_sounds {room} {near} {y} {K} {all} {us} {x} {op} t form g e w q = record {
     room = room;
-    frames = subst (Made room (FTagged head y x ∷ K)) (sym (append_assoc w.ts (w.ls ++ w.t ∷ []) (us ++ t ∷ [])) ∙ ap (λ (v : List Terminal). v ++ (us ++ t ∷ [])) (sym w.tokens))
-        (combining (FTagged head y x) w.frames (tagged_combines w.t t head w.over w.sign w.low w.above q.phrase e g));
+    frames = subst (Made room (FTagged form y x ∷ K)) (sym (append_assoc w.ts (w.ls ++ w.t ∷ []) (us ++ t ∷ [])) ∙ ap (λ (v : List Terminal). v ++ (us ++ t ∷ [])) (sym w.tokens))
+        (combining (FTagged form y x) w.frames (tagged_combines w.t t form w.over w.sign w.low w.above q.phrase e g));
     starts = λ u. tt;
   }
 
-  joined_sounds : {room : ℕ} (K : List Frame) {ts us : List Terminal} {x : P} {edge : ℕ} {op : Operator} (t : Terminal) (head : Option Builtin) → tags_of op ≡ head → next_of t ≡ Next.Joins op →
-      Made room K ts → Over room K us x edge → level_of op < edge → Sounds (joined_by head (tag_on_top K) op K x) (ts ++ (us ++ t ∷ []))
+  joined_sounds : {room : ℕ} (K : List Frame) {ts us : List Terminal} {x : P} {edge : ℕ} {op : Operator} (t : Terminal) (form : Option Builtin) → tags_of op ≡ form → next_of t ≡ Next.Joins op →
+      Made room K ts → Over room K us x edge → level_of op < edge → Sounds (joined_by form (tag_on_top K) op K x) (ts ++ (us ++ t ∷ []))
   unfolding tag_on_top
   joined_sounds K t None g e k q h = attached_sounds t (joins t e) k q h
-  joined_sounds [] t (Some head) g e k q h = attached_sounds t (joins t e) k q h
-  joined_sounds (FTag y ∷ K) t (Some head) g e k q h = assign_sounds t head g e (in_tag y K k) q
-  joined_sounds (FGroup ∷ K) t (Some head) g e k q h = attached_sounds t (joins t e) k q h
-  joined_sounds (FElements opening xs ∷ K) t (Some head) g e k q h = attached_sounds t (joins t e) k q h
-  joined_sounds (FLeads op ∷ K) t (Some head) g e k q h = attached_sounds t (joins t e) k q h
-  joined_sounds (FJoins op x ∷ K) t (Some head) g e k q h = attached_sounds t (joins t e) k q h
-  joined_sounds (FBeside x ∷ K) t (Some head) g e k q h = attached_sounds t (joins t e) k q h
-  joined_sounds (FTagged other x y ∷ K) t (Some head) g e k q h = attached_sounds t (joins t e) k q h
-  joined_sounds (FOuter x ∷ K) t (Some head) g e k q h = attached_sounds t (joins t e) k q h
+  joined_sounds [] t (Some form) g e k q h = attached_sounds t (joins t e) k q h
+  joined_sounds (FTag y ∷ K) t (Some form) g e k q h = assign_sounds t form g e (in_tag y K k) q
+  joined_sounds (FGroup ∷ K) t (Some form) g e k q h = attached_sounds t (joins t e) k q h
+  joined_sounds (FElements opening xs ∷ K) t (Some form) g e k q h = attached_sounds t (joins t e) k q h
+  joined_sounds (FLeads op ∷ K) t (Some form) g e k q h = attached_sounds t (joins t e) k q h
+  joined_sounds (FJoins op x ∷ K) t (Some form) g e k q h = attached_sounds t (joins t e) k q h
+  joined_sounds (FBeside x ∷ K) t (Some form) g e k q h = attached_sounds t (joins t e) k q h
+  joined_sounds (FTagged other x y ∷ K) t (Some form) g e k q h = attached_sounds t (joins t e) k q h
+  joined_sounds (FOuter x ∷ K) t (Some form) g e k q h = attached_sounds t (joins t e) k q h
 
   -- What closes in a bracket.
   record Inside (room : ℕ) (K : List Frame) (us : List Terminal) (x : P) : Type 0 where
@@ -1065,7 +1065,7 @@ module _ (P Q L : Type 0) (A : Constructs P Q L) where
   separated_sounds (FJoins op x ∷ K) t e k q = tt
   separated_sounds (FBeside x ∷ K) t e k q = tt
   separated_sounds (FTag x ∷ K) t e k q = tt
-  separated_sounds (FTagged head x y ∷ K) t e k q = tt
+  separated_sounds (FTagged form x y ∷ K) t e k q = tt
   separated_sounds (FOuter x ∷ K) t e k q = tt
 
   -- The elements and their closing bracket.
@@ -1122,7 +1122,7 @@ module _ (P Q L : Type 0) (A : Constructs P Q L) where
   closed_sounds (FJoins op x ∷ K) c t e k q = tt
   closed_sounds (FBeside x ∷ K) c t e k q = tt
   closed_sounds (FTag x ∷ K) c t e k q = tt
-  closed_sounds (FTagged head x y ∷ K) c t e k q = tt
+  closed_sounds (FTagged form x y ∷ K) c t e k q = tt
   closed_sounds (FOuter x ∷ K) c t e k q = tt
 
   inside_over : {room edge : ℕ} {K : List Frame} {us : List Terminal} {x : P} → Over room K us x edge → Inside room K us x
@@ -1346,7 +1346,7 @@ module _ (P Q L : Type 0) (A : Constructs P Q L) where
   half_sounds (FJoins op x ∷ K) y n t e s = absurd s.top
   half_sounds (FBeside x ∷ K) y n t e s = absurd s.top
   half_sounds (FTag x ∷ K) y n t e s = absurd s.top
-  half_sounds (FTagged head x z ∷ K) y n t e s = absurd s.top
+  half_sounds (FTagged form x z ∷ K) y n t e s = absurd s.top
   half_sounds (FOuter x ∷ K) y _ t e s = tt
 
   pub follows_sounds : SequenceFits → (K : List Frame) (all : List Terminal) (mode : Mode) (t : Terminal) → Sound K mode all → Sounds (follows mode t K) (all ++ t ∷ [])
@@ -1429,7 +1429,7 @@ module _ (P Q L : Type 0) (A : Constructs P Q L) where
   data Lead (K : List Frame) : List Terminal → Type 0 where
     end : Lead K []
     closing : {ts : List Terminal} {c : Bracket} (t : Terminal) → next_of t ≡ Next.Closes c → Lead K (t ∷ ts)
-    assigning : {ts : List Terminal} {op : Operator} {head : Builtin} (t : Terminal) → next_of t ≡ Next.Joins op → tags_of op ≡ Some head → 3 < level_at K → Lead K (t ∷ ts)
+    assigning : {ts : List Terminal} {op : Operator} {form : Builtin} (t : Terminal) → next_of t ≡ Next.Joins op → tags_of op ≡ Some form → 3 < level_at K → Lead K (t ∷ ts)
 
   record Ends (K : List Frame) (x : P) : Type 0 where
     tail : List Filler
@@ -1461,8 +1461,8 @@ module _ (P Q L : Type 0) (A : Constructs P Q L) where
   unfolding finished next_level
   frame_accepts {K} {x} {y} F c g low end a = same_end (ap (λ (p : List Frame × P). at_bottom p.0 p.1) (reduce_some 0 F K x y (omega arith) c)) a
   frame_accepts {K} {x} {y} F c g low (closing {c = d} t e) a = same_accepts t (same_step t (Next.Closes d) (F ∷ K) K x y e (reduce_some 0 F K x y (omega arith) c)) a
-  frame_accepts {K} {x} {y} F c g low (assigning {op = op} {head = head} t e k h) a =
-      let three : level_of op ≡ 3 = tags_level op head k in
+  frame_accepts {K} {x} {y} F c g low (assigning {op = op} {form = form} t e k h) a =
+      let three : level_of op ≡ 3 = tags_level op form k in
       let tall : 3 < frame_level F = g h in
       same_accepts t (same_step t (Next.Joins op) (F ∷ K) K x y e (reduce_some (level_of op) F K x y (omega arith) c)) a
 
@@ -1558,7 +1558,7 @@ module _ (P Q L : Type 0) (A : Constructs P Q L) where
   outer_combines (FJoins op x) c y h = h
   outer_combines (FBeside x) c y h = h
   outer_combines (FTag x) c y h = h
-  outer_combines (FTagged head x z) c y h = h
+  outer_combines (FTagged form x z) c y h = h
 
   mutual
     unfolding reduce finished run level_at frame_level closed closed_group

@@ -1,5 +1,5 @@
 -- Facts on the tables of operators and signs.
-use Rattle.std.proofs.Common.{◌≡◌, ℕ, ◌<◌, ◌≤◌, Bool, true, false, Option, Some, refl, lit<, lit≤}
+use Rattle.std.proofs.Common.{◌≡◌, ◌<◌, ◌≤◌, Bool, true, false, Some, refl, lit<, lit≤}
 use Rattle.semantics.specs.Builtin.{Builtin}
 use Rattle.syntax.specs.Signs.{Sign}
 use Rattle.syntax.specs.Operators.{Operator, Prefix, Postfix, infix_row, level_of, right_of, leads_at, trails_at, tags_of}

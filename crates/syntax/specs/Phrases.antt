@@ -3,8 +3,8 @@
 --     written              those of the language
 --     negated              Neg: the expression of a phrase behind a minus sign
 --     accepts              whether an infix operator takes the phrase as its left operand
-use Rattle.std.specs.Prelude.{ℕ, zero, suc, ◌+◌, ℤ, pos, negsuc, Bool, true, false, not, ◌||◌, ◌&&◌, ◌==◌, cond, List, [], ◌∷◌, ◌++◌}
-use Rattle.expr_tree.specs.Tree.{Tree, integer, normal, elements, trees, call}
+use Rattle.std.specs.Prelude.{ℕ, zero, suc, ℤ, pos, negsuc, Bool, true, false, not, ◌||◌, ◌&&◌, ◌==◌, cond, List, [], ◌∷◌, ◌++◌}
+use Rattle.expr_tree.specs.Tree.{Tree, integer, normal, elements, call}
 use Rattle.semantics.specs.Builtin.{Builtin, row_number}
 use Rattle.semantics.specs.Names.{Names, make, name}
 use Rattle.syntax.specs.Operators.{Operator, Prefix, Postfix, Gives, gives_of}

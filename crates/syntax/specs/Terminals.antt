@@ -5,7 +5,7 @@
 --     Next, next_of            what a terminal is behind a phrase
 --     terminal                 the terminal of a lexeme
 use Rattle.std.specs.Prelude.{ℕ, Bool, cond, List, map}
-use Rattle.expr_tree.specs.Tree.{Tree, integer, string}
+use Rattle.expr_tree.specs.Tree.{Tree}
 use Rattle.semantics.specs.Builtin.{Builtin}
 use Rattle.semantics.specs.Names.{Names}
 use Rattle.syntax.specs.Signs.{Sign, sign_of}

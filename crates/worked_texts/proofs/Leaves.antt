@@ -1,7 +1,7 @@
 -- What tokens stand for, computed.
-use Rattle.std.proofs.Common.{◌≡◌, refl, ℕ, ◌+◌, Bool, true, false, List, [], ◌∷◌, ◌++◌, Option, Some, None}
-use Rattle.std.specs.Prelude.{codes, map, length}
-use Rattle.expr_tree.specs.Tree.{Tree, string, symbol}
+use Rattle.std.proofs.Common.{◌≡◌, refl, ◌+◌, Bool, true, false, List, [], ◌∷◌}
+use Rattle.std.specs.Prelude.{codes, length}
+use Rattle.expr_tree.specs.Tree.{string, symbol}
 use Rattle.semantics.specs.Builtin.{Builtin, rows}
 use Rattle.syntax.specs.Leaves.{number_leaf, string_leaf, name_leaf, blank_leaf, slot_leaf, Lexeme, lexemes}
 use Rattle.worked_texts.proofs.Sample.{names, find, of, x', h', int}

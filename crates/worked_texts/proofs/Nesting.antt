@@ -1,9 +1,7 @@
 -- The greatest nesting of a token is 1024.
-use Rattle.std.proofs.Common.{◌≡◌, refl, ℕ, zero, suc, List, [], ◌∷◌, ◌++◌, Option, Some, None}
+use Rattle.std.proofs.Common.{refl, ℕ, zero, suc, List, [], ◌∷◌, ◌++◌}
 use Rattle.std.specs.Prelude.{codes}
-use Rattle.expr_tree.specs.Tree.{Tree}
 use Rattle.semantics.specs.Builtin.{Builtin}
-use Rattle.syntax.specs.Leaves.{lexemes}
 use Rattle.syntax.specs.Operators.{infix_row, level_of, right_of, gives_of, tags_of, leads_at, trails_at}
 use Rattle.syntax.specs.Terminals.{sign_start, sign_next, word_start, word_next, on_line}
 use Rattle.syntax.specs.Grammar.{nesting_limit}

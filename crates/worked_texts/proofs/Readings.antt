@@ -1,7 +1,7 @@
 -- What cells are read as, and where the others stop being readable, computed.
-use Rattle.std.proofs.Common.{◌≡◌, refl, ℕ, List, [], ◌∷◌, ◌++◌, map, Option, Some, None, sym, ap, ◌∙◌}
+use Rattle.std.proofs.Common.{◌≡◌, refl, ℕ, List, [], ◌∷◌, map, Option, Some, None, ap}
 use Rattle.std.specs.Prelude.{codes, length, drop}
-use Rattle.expr_tree.specs.Tree.{Tree, string, call}
+use Rattle.expr_tree.specs.Tree.{Tree, call}
 use Rattle.semantics.specs.Builtin.{Builtin}
 use Rattle.syntax.specs.Tokens.{LexFault, BadByte, WideNumber, lex}
 use Rattle.syntax.specs.Leaves.{lexemes}
@@ -11,7 +11,7 @@ use Rattle.syntax.specs.Grammar.{nesting_limit}
 use Rattle.syntax.specs.Reads.{Reads, IsOffset, place_of}
 use Rattle.syntax.proofs.Reader.{frame_level, level_at, completed, popped, reduce, push, begins, begins_in, only_at, attached, tag_on_top, joined, separated, closes, made, closed_elements, closed_group, closed, goes_on, next_level, follows_phrase, follows_semicolon, part_opened, follows_opening, follows_half, follows, run, finished}
 use Rattle.syntax.proofs.Read.{parsed, computed, lexemes_computed, stop_of, computed_offset, fault_offset}
-use Rattle.worked_texts.proofs.Sample.{names, find, a', b', c', f', n', x', y', int, less, of, name, list}
+use Rattle.worked_texts.proofs.Sample.{names, find, a', b', c', f', x', y', int, less, of, name, list}
 
 abbrev Row : Type 0
 Row = List ℕ × Tree
