@@ -14,7 +14,7 @@ use Rattle.semantics.specs.Names.{Names, known, role_of}
 use Rattle.expr_tree.specs.Substitution.{among}
 use Rattle.semantics.specs.Rule.{Rule}
 use Rattle.semantics.specs.Definitions.{Definition, Definitions, Shared, shared_as, look_up, add_entry}
-use Rattle.journal.specs.Table.{is_some}
+use Rattle.journal.specs.Places.{is_some}
 
 -- the symbols of an expression, from left to right
 abbrev mutual

@@ -15,7 +15,7 @@ use Rattle.semantics.specs.Definitions.{Definitions, empty, is_empty}
 use Rattle.semantics.specs.Program.{Mode, Request, Call}
 use Rattle.expr_tree.specs.declared.limits.Limits.{Limits}
 use Rattle.semantics.specs.Play.{Setting, End, Reply, Play, Over, Calls, whole}
-use Rattle.journal.specs.Table.{nth, change_at, each_from, member, is_some}
+use Rattle.journal.specs.Places.{nth, change_at, each_from, member, is_some}
 use Rattle.journal.specs.Closure.{Bundle}
 use Rattle.journal.specs.Entry.{Text, Wait, Event, Item, Handed, Posted}
 
@@ -193,6 +193,15 @@ may_take set c k = lives c k
 
 -- ---- accesses
 
+abbrev pub failed : Names → Tree
+failed names = name names Builtin.Failed
+
+abbrev pub aborted : Names → Tree
+aborted names = name names Builtin.Aborted
+
+abbrev pub null : Names → Tree
+null names = name names Builtin.Null
+
 abbrev pub in_mode : Setup → Mode → ℕ → Setting
 in_mode set mode kernel = record { names = set.names; shown = set.shown; mode = mode; kernel = kernel; limits = set.limits }
 
@@ -201,25 +210,22 @@ pub record Served : Type 0 where
   pub definitions : Definitions
   pub lines : List Text
 
--- what stands for an end that is no value
+-- what is shown and sent for an end: its value, and else $Aborted
 abbrev pub value_for : Names → End → Tree
 value_for names (End.Value v) = v
-value_for names _ = name names Builtin.Aborted
+value_for names _ = aborted names
 
 -- an evaluation in mode Service: each count is answered, and each print adds a line
 abbrev pub served : Names → ℕ → Play → List Text → Served
 served names live (Over end s) lines = record { reply = value_for names end; definitions = s.definitions; lines = lines }
 served names live (Calls (Call.Sends Request.Count) s k) lines = served names live (k (Reply.Replied (integer (pos live))) s.definitions) lines
-served names live (Calls (Call.Sends (Request.Print t)) s k) lines = served names live (k (Reply.Replied (name names Builtin.Null)) s.definitions) (lines ++ t ∷ [])
+served names live (Calls (Call.Sends (Request.Print t)) s k) lines = served names live (k (Reply.Replied (null names)) s.definitions) (lines ++ t ∷ [])
 served names live (Calls c s k) lines = served names live (k Reply.Shut s.definitions) lines
 
 abbrev pub service : Setup → Core → Tree → Served
 service set c e = served set.names (count c) (whole (in_mode set Mode.Service 0) c.definitions e) c.lines
 
 -- ---- what becomes of one item
-
-abbrev pub failed : Names → Tree
-failed names = name names Builtin.Failed
 
 -- the result of an item that is abandoned
 abbrev pub abandoned : Names → Item → Tree
@@ -289,9 +295,6 @@ ids_given set k event id (q ∷ qs) =
     elim (has_results (results_given set k event id q)) [ true ↦ id ∷ ids_given set k event (suc id) qs | false ↦ ids_given set k event (suc id) qs ]
 
 -- ---- guards
-
-abbrev pub same_tree : Tree → Tree → Bool
-same_tree = same
 
 -- kernels post while a wait stands, or while kernel 0 has posted nothing yet
 abbrev pub may_post : Core → Bool

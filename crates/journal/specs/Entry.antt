@@ -1,4 +1,8 @@
 -- What is posted: events, entries, and what the master hands in beside them.
+--     Loss, Wait, Event     what an entry says
+--     Entry                 an event with the kernel that posted it; the journal is a list of these
+--     Item                  what is submitted
+--     Handed, Posted        what the master hands in at an entry; an entry with that
 use Rattle.std.specs.Prelude.{ℕ, List}
 use Rattle.expr_tree.specs.declared.sym.Sym.{Sym}
 use Rattle.expr_tree.specs.Tree.{Tree}

@@ -8,15 +8,15 @@ use Rattle.expr_tree.specs.declared.sym.Sym.{Sym}
 use Rattle.expr_tree.specs.Tree.{Tree, integer}
 use Rattle.expr_tree.specs.Order.{same, text_cmp}
 use Rattle.semantics.specs.Builtin.{Builtin}
-use Rattle.semantics.specs.Names.{Names, name, make}
+use Rattle.semantics.specs.Names.{Names, make}
 use Rattle.semantics.specs.Definitions.{Definitions, empty}
 use Rattle.semantics.specs.Program.{Mode, Request, Call}
 use Rattle.semantics.specs.Play.{State, End, Reply, Play, Over, Calls, whole, too_large}
 use Rattle.semantics.specs.Eval.{same_symbols}
-use Rattle.journal.specs.Table.{nth, given, when, is_some}
+use Rattle.journal.specs.Places.{nth, given, when, is_some}
 use Rattle.journal.specs.Closure.{Bundle, install}
 use Rattle.journal.specs.Entry.{Loss, Event, Item, Handed, Posted}
-use Rattle.journal.specs.Core.{Setup, in_mode}
+use Rattle.journal.specs.Core.{Setup, in_mode, aborted, null}
 
 pub data Attempt : Type 0 where
   Wants : Call → (Reply → Attempt) → Attempt
@@ -31,9 +31,6 @@ pub data Attempt : Type 0 where
 abbrev pub attempt_of : Play → (End → State → Attempt) → Attempt
 attempt_of (Over end s) k = k end s
 attempt_of (Calls c s f) k = Wants c (λ reply. attempt_of (f reply s.definitions) k)
-
-abbrev pub aborted : Names → Tree
-aborted names = name names Builtin.Aborted
 
 -- in the stand-in Quit[] is a stop, and an open section is left
 abbrev pub after_quit : ℕ → Option (List Sym) → Attempt → Attempt
@@ -90,9 +87,9 @@ first_view = record { items = []; own = 0; phase = Free empty }
 abbrev pub heard : Names → Call → Event → Option Reply
 heard names (Call.Sends (Request.Access e)) (Event.Access f r) = when (same e f) (Some (Reply.Replied r))
 heard names (Call.Sends Request.Count) (Event.Ask n) = Some (Reply.Replied (integer (pos n)))
-heard names (Call.Sends (Request.Print t)) (Event.Print u) = when (is_eq (text_cmp t u)) (Some (Reply.Replied (name names Builtin.Null)))
-heard names (Call.Enter ls) (Event.Enter ms) = when (same_symbols ls ms) (Some (Reply.Replied (name names Builtin.Null)))
-heard names Call.Leave Event.Leave = Some (Reply.Replied (name names Builtin.Null))
+heard names (Call.Sends (Request.Print t)) (Event.Print u) = when (is_eq (text_cmp t u)) (Some (Reply.Replied (null names)))
+heard names (Call.Enter ls) (Event.Enter ms) = when (same_symbols ls ms) (Some (Reply.Replied (null names)))
+heard names Call.Leave Event.Leave = Some (Reply.Replied (null names))
 heard names _ _ = None
 
 abbrev pub item_of : List (Item × Bundle) → ℕ → Option (Item × Bundle)

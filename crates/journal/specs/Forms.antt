@@ -18,10 +18,10 @@ use Rattle.semantics.specs.Play.{Reply, too_large, first_cause}
 use Rattle.semantics.specs.Control.{Values, From, Each, steps_to, inner_form}
 use Rattle.semantics.specs.Lists.{count_up}
 use Rattle.semantics.specs.Sections.{is_option, without_option, same_share}
-use Rattle.journal.specs.Table.{member}
+use Rattle.journal.specs.Places.{member}
 use Rattle.journal.specs.Closure.{is_shared}
 use Rattle.journal.specs.Entry.{Wait, Item}
-use Rattle.journal.specs.Core.{Setup, Core, Kernel, names_item, count, failed}
+use Rattle.journal.specs.Core.{Setup, Core, Kernel, names_item, count, failed, null}
 use Rattle.journal.specs.Cuts.{Method, Coarsest, Finest, Per, cut}
 
 -- what follows when the items are submitted
@@ -66,9 +66,6 @@ gives d v = Answers (Reply.Replied v) d
 
 abbrev pub fails : Setup → Definitions → Form
 fails set d = gives d (failed set.names)
-
-abbrev pub null : Setup → Tree
-null set = name set.names Builtin.Null
 
 -- ---- objects
 
@@ -318,7 +315,7 @@ parallel_loop set c d stay sequential finish (e ∷ it ∷ rest) =
 parallel_loop set c d stay sequential finish _ = gives d stay
 
 abbrev pub to_null : Setup → Option (List Tree) → Reply
-to_null set o = Reply.Replied (null set)
+to_null set o = Reply.Replied (null set.names)
 
 -- ---- Combine, Try, Evaluate
 
@@ -379,7 +376,7 @@ with_named (s ∷ ss) named = elim (among s named) [ true ↦ with_named ss name
 
 abbrev pub distribute : Setup → Definitions → Tree → Option (List Sym) → Form
 distribute set d stay None = gives d stay
-distribute set d stay (Some ss) = gives (record d { named = with_named ss d.named }) (null set)
+distribute set d stay (Some ss) = gives (record d { named = with_named ss d.named }) (null set.names)
 
 -- a symbol is not shared where it is Protected, or shared in the other kind
 abbrev pub in_other_kind : Share → Option Shared → Bool
@@ -402,7 +399,7 @@ with_shared names d kind (s ∷ ss) shared =
 abbrev pub share : Setup → Definitions → Tree → Share → Option (List Sym) → Form
 share set d stay kind None = gives d stay
 share set d stay kind (Some ss) =
-    elim (cannot_share set.names d kind ss) [ true ↦ fails set d | false ↦ gives (record d { shared = with_shared set.names d kind ss d.shared }) (null set) ]
+    elim (cannot_share set.names d kind ss) [ true ↦ fails set d | false ↦ gives (record d { shared = with_shared set.names d kind ss d.shared }) (null set.names) ]
 
 -- ---- all forms
 

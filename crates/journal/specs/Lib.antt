@@ -1,4 +1,4 @@
-pub mod Table
+pub mod Places
 pub mod Closure
 pub mod Entry
 pub mod Core

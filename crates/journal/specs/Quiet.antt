@@ -1,14 +1,16 @@
 -- Applications that give the same wherever they are evaluated.
+--     by_itself             an application evaluated by a kernel that knows its bundle alone
+--     IsQuiet, Quiet        it gives a value, changes no definition, and mode and kernel do not matter; each of a list does so
+--     alone                 the values of a list of such applications
 use Rattle.std.specs.Prelude.{◌≡◌, ◌≤◌, List, [], ◌∷◌, false}
 use Rattle.expr_tree.specs.Tree.{Tree, size, depth}
-use Rattle.semantics.specs.Builtin.{Builtin}
-use Rattle.semantics.specs.Names.{Names, name}
+use Rattle.semantics.specs.Names.{Names}
 use Rattle.semantics.specs.Definitions.{Definitions, empty}
 use Rattle.semantics.specs.Program.{Mode}
 use Rattle.semantics.specs.Play.{End}
 use Rattle.semantics.specs.Eval.{Outcome, Evaluation, eval}
 use Rattle.journal.specs.Closure.{bundle, install, symbols_of}
-use Rattle.journal.specs.Core.{Setup, in_mode, value_for}
+use Rattle.journal.specs.Core.{Setup, in_mode, value_for, aborted}
 
 -- the definitions of a kernel that knows the bundle alone
 abbrev pub bare : Setup → Definitions → Tree → Definitions
@@ -32,7 +34,7 @@ Quiet set d (a ∷ as') = IsQuiet set d a × Quiet set d as'
 -- the value of an evaluation that has one
 abbrev pub ended_value : Names → Outcome → Tree
 ended_value names (Outcome.Ended end) = value_for names end
-ended_value names _ = name names Builtin.Aborted
+ended_value names _ = aborted names
 
 abbrev pub alone : Setup → Definitions → List Tree → List Tree
 alone set d [] = []

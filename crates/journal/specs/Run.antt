@@ -10,15 +10,15 @@ use Rattle.expr_tree.specs.declared.sym.Sym.{Sym}
 use Rattle.expr_tree.specs.Tree.{Tree, integer, depth}
 use Rattle.expr_tree.specs.Order.{text_cmp}
 use Rattle.semantics.specs.Builtin.{Builtin}
-use Rattle.semantics.specs.Names.{Names, name, is_name}
+use Rattle.semantics.specs.Names.{Names, is_name}
 use Rattle.semantics.specs.Definitions.{Definitions, empty}
 use Rattle.semantics.specs.Program.{Mode, Request, Call}
 use Rattle.semantics.specs.Play.{State, End, Reply, Play, Over, Calls, whole}
 use Rattle.semantics.specs.Eval.{same_symbols}
-use Rattle.journal.specs.Table.{given, when}
+use Rattle.journal.specs.Places.{given, when}
 use Rattle.journal.specs.Closure.{bundle, symbols_of, symbols_of_all}
 use Rattle.journal.specs.Entry.{Text, Wait, Event, Entry, Item, Handed, Posted}
-use Rattle.journal.specs.Core.{Setup, Core, start, step, all_free, wait_reply, in_mode, count, value_for}
+use Rattle.journal.specs.Core.{Setup, Core, start, step, all_free, wait_reply, in_mode, count, value_for, aborted, null}
 use Rattle.journal.specs.Follow.{all_run}
 use Rattle.journal.specs.Forms.{Next, Replies, Awaits, Form, Answers, Submits, form}
 
@@ -103,9 +103,6 @@ pub record Answered : Type 0 where
 abbrev pub replied : Tree → Definitions → Option Walk → Option Answered
 replied v d o = given o (λ w. Some (record { reply = Reply.Replied v; after = d; walk = w }))
 
-abbrev pub null : Setup → Tree
-null set = name set.names Builtin.Null
-
 abbrev pub by_next : Setup → Definitions → Next → Walk → Option Answered
 by_next set d (Replies reply) w = Some (record { reply = reply; after = d; walk = w })
 by_next set d (Awaits wait k) w =
@@ -119,14 +116,14 @@ by_form set d (Submits items k) w = given (submit_all set d items w) (λ r. by_n
 abbrev pub enter : Setup → Definitions → List Sym → Walk → Option Answered
 enter set d locks w =
     elim (all_free w.core locks) [
-      | true ↦ replied (null set) d (master_posts set (Event.Enter locks) Handed.Nothing w)
-      | false ↦ given (wait_for set d (Wait.Locks locks) w) (λ r. replied (null set) r.1.core.definitions (master_posts set (Event.Enter locks) Handed.Nothing r.1))
+      | true ↦ replied (null set.names) d (master_posts set (Event.Enter locks) Handed.Nothing w)
+      | false ↦ given (wait_for set d (Wait.Locks locks) w) (λ r. replied (null set.names) r.1.core.definitions (master_posts set (Event.Enter locks) Handed.Nothing r.1))
     ]
 
 abbrev pub answer : Setup → Call → Definitions → Walk → Option Answered
 answer set (Call.Sends Request.Count) d w = replied (integer (pos (count w.core))) d (master_posts set (Event.Ask (count w.core)) Handed.Nothing w)
-answer set (Call.Sends (Request.Print t)) d w = replied (null set) d (master_posts set (Event.Print t) Handed.Nothing w)
-answer set Call.Leave d w = replied (null set) d (master_posts set Event.Leave Handed.Nothing w)
+answer set (Call.Sends (Request.Print t)) d w = replied (null set.names) d (master_posts set (Event.Print t) Handed.Nothing w)
+answer set Call.Leave d w = replied (null set.names) d (master_posts set Event.Leave Handed.Nothing w)
 answer set (Call.Enter locks) d w = enter set d locks w
 answer set (Call.Sends (Request.Outside e)) d w = by_form set d (form set w.core d e) w
 answer set (Call.Sends (Request.Access e)) d w = None
@@ -180,7 +177,7 @@ abbrev pub run_cell : Setup → ℕ → Reading → Ran → Option Ran
 run_cell set n (Unread at) ran = Some (with_lines (Syntax n at ∷ []) ran)
 run_cell set n (Reads e) ran =
     elim (ltb set.limits.depth (depth e)) [
-      | true ↦ Some (with_lines (out_line set.names n (name set.names Builtin.Aborted)) ran)
+      | true ↦ Some (with_lines (out_line set.names n (aborted set.names)) ran)
       | false ↦ given (play_along set (whole (in_mode set Mode.Cell 0) ran.definitions e) ran.walk) (λ r. Some (after_cell set n ran r))
     ]
 

@@ -1,4 +1,7 @@
 -- Sections and results of a journal.
+--     Span, sections        a section from its Enter to its end, with its locks; those of a journal
+--     NeverOverlap          of two that share a lock the later begins after the earlier's end
+--     results               the results that a journal gives to an item
 use Rattle.std.specs.Prelude.{ℕ, suc, ◌<◌, ◌≡◌, List, [], ◌∷◌, ◌++◌, Bool, true, false, ◌&&◌, ◌==◌, Some, None}
 use Rattle.expr_tree.specs.declared.sym.Sym.{Sym}
 use Rattle.expr_tree.specs.Tree.{Tree}

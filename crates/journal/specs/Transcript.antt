@@ -5,16 +5,15 @@
 --     line_text             the bytes of a line of a transcript
 --     transcript_text       the bytes of a transcript
 --     Explains              a legal journal of a script, and its bytes
-use Rattle.std.specs.Prelude.{◌≡◌, ℕ, List, [], ◌∷◌, ◌++◌, map, length, Bool, Option, Some, None}
-use Rattle.script_text.specs.Spelling.{Spelling, by_texts, place_in, bases}
+use Rattle.std.specs.Prelude.{◌≡◌, ℕ, List, [], ◌∷◌, ◌++◌, map, length, Bool, Option, Some}
+use Rattle.script_text.specs.Spelling.{by_texts, place_in, bases}
 use Rattle.script_text.specs.Cells.{cells}
 use Rattle.semantics.specs.Builtin.{rows}
-use Rattle.semantics.specs.Names.{Names}
 use Rattle.semantics.specs.Texts.{row_text, names_of}
 use Rattle.syntax.specs.Tokens.{names_in, lex}
 use Rattle.syntax.specs.Reads.{Reads, IsOffset}
 use Rattle.syntax.specs.Lines.{value_text, out_line, syntax_line, print_line}
-use Rattle.journal.specs.Table.{given}
+use Rattle.journal.specs.Places.{given}
 use Rattle.journal.specs.Entry.{Text, Entry}
 use Rattle.journal.specs.Core.{Setup, Recovery}
 use Rattle.journal.specs.Run as Run

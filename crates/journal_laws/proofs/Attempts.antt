@@ -2,7 +2,7 @@
 use Rattle.std.proofs.Common.{◌≡◌, refl, sym, ap, subst, ◌∙◌, ℕ, zero, suc, ◌+◌, Bool, true, false, List, [], ◌∷◌, ◌++◌, Option, Some, None, true≢false, eqb-true, eq-eqb, arith}
 use Rattle.std.specs.Prelude.{◌&&◌, not, ◌==◌, replicate}
 use Rattle.expr_tree.specs.Tree.{Tree}
-use Rattle.journal.specs.Table.{nth, change_at, each_from}
+use Rattle.journal.specs.Places.{nth, change_at, each_from}
 use Rattle.journal.specs.Entry.{Event, Item, Posted, Handed}
 use Rattle.journal.specs.Core.{Setup, Core, Kernel, new_kernel, Queued, Status, Waiting, Running, Done, Dropped, start, status_of, attempt_of, recovered, failed, fate, delivered, dropped, drops, status_after, queued_after, is_waiting, may_go, first_for, is_id, runs_or_dropped, permitted, allowed, with_item, items_after, kernel_after, effect, replay_from}
 use Rattle.journal_laws.proofs.Tables.{both, none≢some, some_is, split, apart, each_nth, change_other, change_same}

@@ -1,11 +1,9 @@
 -- The computed closure is the least closed set.
-use Rattle.std.proofs.Common.{◌≡◌, refl, sym, ap, subst, ◌∙◌, ℕ, zero, suc, Bool, true, false, List, [], ◌∷◌, ◌++◌, map, length, Option, Some, None, T, true≢false, inl, inr, arith}
-use Rattle.std.specs.Prelude.{◌&&◌, ◌||◌, not, ◌⊎◌, ◌≤◌}
+use Rattle.std.proofs.Common.{◌≡◌, refl, sym, ap, subst, ◌∙◌, ℕ, zero, suc, Bool, true, false, List, [], ◌∷◌, ◌++◌, map, length, Option, Some, None, true≢false, inl, inr, arith}
+use Rattle.std.specs.Prelude.{◌&&◌, not, ◌⊎◌, ◌≤◌}
 use Rattle.std.specs.declared.cmp.Ordering.{Ordering}
 use Rattle.std.specs.declared.cmp.Ordering.TheVariants.{Less, Equal, Greater}
-use Rattle.std.specs.Ordering.{is_eq}
 use Rattle.expr_tree.specs.declared.sym.Sym.{Sym}
-use Rattle.expr_tree.specs.Tree.{Tree}
 use Rattle.expr_tree.specs.Order.{symbol_cmp, same_symbol}
 use Rattle.expr_tree.specs.Same.{symbol_eq}
 use Rattle.semantics.specs.Names.{Names}
@@ -179,10 +177,10 @@ module _ (names : Names) (d : Definitions) where
             follows = inner.follows;
             shorter = ap suc inner.shorter;
             rest = λ s h.
-            elim (among_cases s t ts h) [
-              | inl e' ↦ inr (among_at s t x.1 e')
-              | inr r' ↦ elim (inner.rest s r') [ inl e' ↦ inl e' | inr m ↦ inr (among_rest s t x.1 m) ]
-            ];
+                elim (among_cases s t ts h) [
+                  | inl e' ↦ inr (among_at s t x.1 e')
+                  | inr r' ↦ elim (inner.rest s r') [ inl e' ↦ inl e' | inr m ↦ inr (among_rest s t x.1 m) ]
+                ];
           })
 
       go : (b : Bool) → is_followed names d r t ≡ b → elim b [ true ↦ Some (t, ts) | false ↦ set_aside t (next_followed names d r ts) ] ≡ Some p → ((x : Sym × List Sym) → next_followed names d r ts ≡ Some x → Picked r ts x) → Picked r (t ∷ ts) p
@@ -220,10 +218,10 @@ module _ (names : Names) (d : Definitions) where
         record {
           listed = λ s h. elim (puts_from s ss r.symbols h) [ inl l ↦ new s l | inr m ↦ sound.listed s m ];
           opened = λ h.
-          elim (either r.table (opens_table names d ss) h) [
-            | inl l ↦ sound.opened l
-            | inr m ↦ let found = opens_from ss m in (found.0, new found.0 found.1, found.2)
-          ];
+              elim (either r.table (opens_table names d ss) h) [
+                | inl l ↦ sound.opened l
+                | inr m ↦ let found = opens_from ss m in (found.0, new found.0 found.1, found.2)
+              ];
         }
 
     sound_grown : (n : ℕ) (ss : List Sym) (r : Reach) → Sound r → Sound (grown n names d ss r)
@@ -277,10 +275,10 @@ module _ (names : Names) (d : Definitions) where
       record {
         opens = f.opened;
         holds = λ s t h unshared at.
-        elim (f.done s) [
-          | inl waits ↦ absurd (true≢false (sym (is_followed_there r s h unshared) ∙ none s waits))
-          | inr all ↦ all t at
-        ];
+            elim (f.done s) [
+              | inl waits ↦ absurd (true≢false (sym (is_followed_there r s h unshared) ∙ none s waits))
+              | inr all ↦ all t at
+            ];
       }
 
   closed_grown : (n : ℕ) (ss : List Sym) (r : Reach) → length ss ≤ n → Followed ss r → Closed (grown n names d ss r)
@@ -297,13 +295,13 @@ module _ (names : Names) (d : Definitions) where
           again p.1 (reach_of names d r (stored_symbols d p.0)) (omega arith) (record {
             opened = opened_of r (stored_symbols d p.0) f.opened;
             done = λ s.
-            elim (f.done s) [
-              | inl waits ↦ elim (here.rest s waits) [
-                | inl e' ↦ inr (λ t at. of_there r (stored_symbols d p.0) t (subst (λ x. Among t (stored_symbols d x)) e' at))
-                | inr m ↦ inl m
-              ]
-              | inr all ↦ inr (λ t at. of_keeps r (stored_symbols d p.0) t (all t at))
-            ];
+                elim (f.done s) [
+                  | inl waits ↦ elim (here.rest s waits) [
+                    | inl e' ↦ inr (λ t at. of_there r (stored_symbols d p.0) t (subst (λ x. Among t (stored_symbols d x)) e' at))
+                    | inr m ↦ inl m
+                  ]
+                  | inr all ↦ inr (λ t at. of_keeps r (stored_symbols d p.0) t (all t at))
+                ];
           })
 
   grown_keeps : (n : ℕ) (ss : List Sym) (r : Reach) (s : Sym) → Reaches r s → Reaches (grown n names d ss r) s
@@ -329,10 +327,10 @@ module _ (names : Names) (d : Definitions) where
         closed_grown (length (defined d)) (defined d) (reach_of names d nothing_reached (seeds ++ d.named)) (omega arith) (record {
           opened = opened_of nothing_reached (seeds ++ d.named) (λ s h o. absurd (true≢false (sym h)));
           done = λ s.
-          elim (defined_or_none d.entries s) [
-            | inl l ↦ inl l
-            | inr none ↦ inr (λ t at. absurd (true≢false (sym (subst (λ o. among t (elim o [ None ↦ [] | Some x ↦ symbols_of_definition x ]) ≡ true) none at))))
-          ];
+              elim (defined_or_none d.entries s) [
+                | inl l ↦ inl l
+                | inr none ↦ inr (λ t at. absurd (true≢false (sym (subst (λ o. among t (elim o [ None ↦ [] | Some x ↦ symbols_of_definition x ]) ≡ true) none at))))
+              ];
         })
 
     begun_keeps : (s : Sym) → Among s (seeds ++ d.named) → Reaches (closure names d seeds) s

@@ -7,7 +7,7 @@ use Rattle.semantics.specs.Definitions.{Definitions}
 use Rattle.semantics.specs.Program.{Request, Call}
 use Rattle.semantics.specs.Play.{Reply}
 use Rattle.semantics.specs.Eval.{same_symbols}
-use Rattle.journal.specs.Table.{nth, given, when, is_some}
+use Rattle.journal.specs.Places.{nth, given, when, is_some}
 use Rattle.journal.specs.Entry.{Event, Handed, Loss}
 use Rattle.journal.specs.Core.{Setup, Core, Kernel, lives, attempt_of, count, has_attempt, no_wait, condition_holds, first_for, is_id, in_evaluation, service, permitted}
 use Rattle.journal.specs.Follow.{Attempt, Wants, Delivers, Quits, Stuck, Phase, Free, At, Lost, View, heard, attempted, stand_in_entry}

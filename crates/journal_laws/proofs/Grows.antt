@@ -3,18 +3,16 @@ use Rattle.std.proofs.Common.{◌≡◌, refl, ap, ◌∙◌, ℕ, suc, Bool, tr
 use Rattle.std.specs.Prelude.{◌&&◌, ◌==◌, ltb, pos}
 use Rattle.expr_tree.specs.declared.sym.Sym.{Sym}
 use Rattle.expr_tree.specs.Tree.{Tree, integer, depth}
-use Rattle.semantics.specs.Builtin.{Builtin}
-use Rattle.semantics.specs.Names.{name}
 use Rattle.semantics.specs.Definitions.{Definitions}
 use Rattle.semantics.specs.Program.{Request, Call, Mode}
 use Rattle.semantics.specs.Play.{Reply, Play, Over, Calls, whole}
-use Rattle.journal.specs.Table.{given, when}
+use Rattle.journal.specs.Places.{given, when}
 use Rattle.journal.specs.Closure.{bundle}
 use Rattle.journal.specs.Entry.{Event, Entry, Item, Posted, Handed, Wait}
-use Rattle.journal.specs.Core.{Setup, Core, step, all_free, wait_reply, count, in_mode}
+use Rattle.journal.specs.Core.{null, aborted, Setup, Core, step, all_free, wait_reply, count, in_mode}
 use Rattle.journal.specs.Forms.{Next, Replies, Awaits, Form, Answers, Submits, form}
 use Rattle.journal_laws.specs.Laws.{longer, longer_answer, longer_ran}
-use Rattle.journal.specs.Run.{Walk, post, post_next, master_posts, is_event, is_resume, until_resume, wait_for, seeds_of, submit_all, Answered, replied, null, by_next, by_form, enter, answer, Finish, play_along, Reading, Reads, Unread, Ran, run_cell, run_cells, after_cell, with_lines, out_line, Syntax}
+use Rattle.journal.specs.Run.{Walk, post, post_next, master_posts, is_event, is_resume, until_resume, wait_for, seeds_of, submit_all, Answered, replied, by_next, by_form, enter, answer, Finish, play_along, Reading, Reads, Unread, Ran, run_cell, run_cells, after_cell, with_lines, out_line, Syntax}
 use Rattle.journal_laws.proofs.Tables.{none≢some}
 
 abbrev longer_pair : {A : Type 0} → List Entry → A × Walk → A × Walk
@@ -155,14 +153,14 @@ enter_grows set d ls w further a q =
     a q
   where
     entered : Walk → Definitions → Option Answered
-    entered v after = replied (null set) after (master_posts set (Event.Enter ls) Handed.Nothing v)
+    entered v after = replied (null set.names) after (master_posts set (Event.Enter ls) Handed.Nothing v)
 
     later : List Tree × Walk → Option Answered
     later r = entered r.1 (r.1).core.definitions
 
     grows : (v : Walk) (after : Definitions) (b : Answered) → entered v after ≡ Some b → entered (longer further v) after ≡ Some (longer_answer further b)
     grows v after b p =
-        replied_grows (null set) after (master_posts set (Event.Enter ls) Handed.Nothing v) (master_posts set (Event.Enter ls) Handed.Nothing (longer further v)) further
+        replied_grows (null set.names) after (master_posts set (Event.Enter ls) Handed.Nothing v) (master_posts set (Event.Enter ls) Handed.Nothing (longer further v)) further
         (λ u s. master_grows set (Event.Enter ls) Handed.Nothing v further u s) b p
 
 one_grows : (set : Setup) (v : Tree) (d : Definitions) (event : Event) (w : Walk) (further : List Entry) (a : Answered)
@@ -173,8 +171,8 @@ one_grows set v d event w further a q =
 pub answer_grows : (set : Setup) (c : Call) (d : Definitions) (w : Walk) (further : List Entry) (a : Answered)
     → answer set c d w ≡ Some a → answer set c d (longer further w) ≡ Some (longer_answer further a)
 answer_grows set (Call.Sends Request.Count) d w further a q = one_grows set (integer (pos (count w.core))) d (Event.Ask (count w.core)) w further a q
-answer_grows set (Call.Sends (Request.Print t)) d w further a q = one_grows set (null set) d (Event.Print t) w further a q
-answer_grows set Call.Leave d w further a q = one_grows set (null set) d Event.Leave w further a q
+answer_grows set (Call.Sends (Request.Print t)) d w further a q = one_grows set (null set.names) d (Event.Print t) w further a q
+answer_grows set Call.Leave d w further a q = one_grows set (null set.names) d Event.Leave w further a q
 answer_grows set (Call.Enter ls) d w further a q = enter_grows set d ls w further a q
 answer_grows set (Call.Sends (Request.Outside e)) d w further a q = by_form_grows set d (form set w.core d e) w further a q
 answer_grows set (Call.Sends (Request.Access e)) d w further a q = absurd (none≢some q)
@@ -202,7 +200,7 @@ cell_grows set n (Reads e) ran further r q =
     t = whole (in_mode set Mode.Cell 0) ran.definitions e
 
     deep : Ran → Ran
-    deep x = with_lines (out_line set.names n (name set.names Builtin.Aborted)) x
+    deep x = with_lines (out_line set.names n (aborted set.names)) x
 
     walked : Ran → Option Ran
     walked x = given (play_along set t x.walk) (λ s. Some (after_cell set n x s))

@@ -1,22 +1,20 @@
 -- What a kernel wants is what the core says of its section.
-use Rattle.std.proofs.Common.{◌≡◌, refl, sym, ap, subst, ◌∙◌, ℕ, zero, suc, Bool, true, false, List, [], ◌∷◌, Option, Some, None, T, is_some, true≢false, eqb-true}
-use Rattle.std.specs.Prelude.{◌&&◌, not, ◌==◌, ◌≤◌}
+use Rattle.std.proofs.Common.{◌≡◌, refl, sym, subst, ◌∙◌, ℕ, zero, suc, Bool, true, false, List, [], ◌∷◌, Option, Some, None, T, is_some, eqb-true}
+use Rattle.std.specs.Prelude.{not, ◌==◌, ◌≤◌}
 use Rattle.expr_tree.specs.declared.sym.Sym.{Sym}
 use Rattle.expr_tree.specs.Tree.{Tree}
-use Rattle.semantics.specs.Builtin.{Builtin}
-use Rattle.semantics.specs.Names.{name}
 use Rattle.semantics.specs.Definitions.{Definitions, is_empty}
 use Rattle.semantics.specs.Program.{Mode, Request, Call}
-use Rattle.semantics.specs.Play.{State, End, Reply, Play, Over, Calls, whole}
-use Rattle.semantics.specs.Opened.{opens, may_call}
-use Rattle.journal.specs.Table.{nth, change_at, given, when}
+use Rattle.semantics.specs.Play.{End, Reply, Play, Over, Calls, whole}
+use Rattle.semantics.specs.Opened.{opens}
+use Rattle.journal.specs.Places.{nth, change_at, given}
 use Rattle.journal.specs.Closure.{Bundle, install}
 use Rattle.journal.specs.Entry.{Event, Item, Posted, Loss}
-use Rattle.journal.specs.Core.{Setup, Core, in_mode, Kernel, new_kernel, start, locks_of, holds_nothing, permitted, allowed, kernel_after, effect, replay_from}
-use Rattle.journal.specs.Follow.{Attempt, Wants, Delivers, Quits, Stuck, attempt_of, aborted, after_quit, valued, evaluated, applications, attempt, Phase, Free, At, Lost, View, heard, item_of, moved, is_lost, is_planned, or_planned, own_entry, with_handed, watch, watch_from, first_view, kernel_run}
+use Rattle.journal.specs.Core.{Setup, Core, in_mode, aborted, null, Kernel, new_kernel, start, locks_of, permitted, allowed, kernel_after, effect, replay_from}
+use Rattle.journal.specs.Follow.{Attempt, Wants, Delivers, Quits, attempt_of, after_quit, valued, evaluated, applications, attempt, Phase, Free, At, Lost, View, heard, item_of, moved, is_lost, is_planned, or_planned, own_entry, with_handed, watch, watch_from, first_view, kernel_run}
 use Rattle.journal_laws.specs.Laws.{Ordered, wants, delivers, quits, stuck, StandsIn}
 use Rattle.journal_laws.proofs.Tables.{both, none≢some, some_is, split, apart, is_not, change_other, change_same}
-use Rattle.journal_laws.proofs.Tidy.{open_in, Tidy, ended, called, AsBegun, whole-tidy}
+use Rattle.journal_laws.proofs.Tidy.{Tidy, ended, called, whole-tidy}
 use Rattle.journal_laws.proofs.Grows.{opened}
 use Rattle.journal_laws.proofs.Kept as Kept
 use Rattle.journal_laws.proofs.Views.{a_row}
@@ -87,7 +85,7 @@ answered set (Call.Sends Request.Count) f (Event.Ask n) row r some next q = subs
 answered set (Call.Sends (Request.Print t)) f (Event.Print u) row r some next q =
     subst (λ z. Ordered (holds_some row) (f z)) (some_is (Kept.when_some _ _ r q).1) (next _)
 answered set (Call.Enter ls) f (Event.Enter ms) row r some next q =
-    subst (λ z. Ordered (not (is_empty ms)) (f z)) (some_is (Kept.when_some _ _ r q).1) (subst (λ b. Ordered (not b) (f (Reply.Replied (name set.names Builtin.Null)))) (sym some) (next (name set.names Builtin.Null)))
+    subst (λ z. Ordered (not (is_empty ms)) (f z)) (some_is (Kept.when_some _ _ r q).1) (subst (λ b. Ordered (not b) (f (Reply.Replied (null set.names)))) (sym some) (next (null set.names)))
 answered set Call.Leave f Event.Leave row r some next q = subst (λ z. Ordered false (f z)) (some_is q) (next _)
 answered set _ f _ row r some next q = absurd (none≢some q)
 

@@ -3,17 +3,15 @@ use Rattle.std.proofs.Common.{◌≡◌, refl, sym, ap, subst, ℕ, suc, Bool, t
 use Rattle.std.specs.Prelude.{◌&&◌, ◌==◌, ltb}
 use Rattle.expr_tree.specs.declared.sym.Sym.{Sym}
 use Rattle.expr_tree.specs.Tree.{Tree, depth}
-use Rattle.semantics.specs.Builtin.{Builtin}
-use Rattle.semantics.specs.Names.{name}
 use Rattle.semantics.specs.Definitions.{Definitions, empty}
 use Rattle.semantics.specs.Program.{Request, Call, Mode}
 use Rattle.semantics.specs.Play.{Reply, Play, Over, Calls, whole}
-use Rattle.journal.specs.Table.{given, when}
+use Rattle.journal.specs.Places.{given, when}
 use Rattle.journal.specs.Closure.{bundle}
 use Rattle.journal.specs.Entry.{Event, Entry, Item, Posted, Handed, Wait}
-use Rattle.journal.specs.Core.{Setup, Core, step, all_free, wait_reply, count, in_mode}
+use Rattle.journal.specs.Core.{null, aborted, Setup, Core, step, all_free, wait_reply, count, in_mode}
 use Rattle.journal.specs.Forms.{Next, Replies, Awaits, Form, Answers, Submits, form}
-use Rattle.journal.specs.Run.{Walk, post, post_next, master_posts, is_event, is_resume, until_resume, wait_for, seeds_of, submit_all, Answered, replied, null, by_next, by_form, enter, answer, Finish, play_along, Reading, Reads, Unread, Ran, run_cell, run_cells, first_losses, first_walk, is_loss, run, after_cell, out_line}
+use Rattle.journal.specs.Run.{Walk, post, post_next, master_posts, is_event, is_resume, until_resume, wait_for, seeds_of, submit_all, Answered, replied, by_next, by_form, enter, answer, Finish, play_along, Reading, Reads, Unread, Ran, run_cell, run_cells, first_losses, first_walk, is_loss, run, after_cell, out_line}
 use Rattle.journal_laws.proofs.Tables.{none≢some, some_is}
 use Rattle.journal_laws.proofs.Grows.{opened}
 
@@ -108,13 +106,13 @@ module _ (set : Setup) (P : Walk → List Entry → Type 0) (posts : (h : Handed
   enter_good d ls w a good q = go (all_free w.core ls) q
     where
       entered : Walk → Definitions → Option Answered
-      entered v after = replied (null set) after (master_posts set (Event.Enter ls) Handed.Nothing v)
+      entered v after = replied (null set.names) after (master_posts set (Event.Enter ls) Handed.Nothing v)
 
       later : List Tree × Walk → Option Answered
       later r = entered r.1 (r.1).core.definitions
 
       one : (v : Walk) (after : Definitions) → Good v → entered v after ≡ Some a → Good a.walk
-      one v after g e = replied_good (null set) after (master_posts set (Event.Enter ls) Handed.Nothing v) a (λ u s. master_good (Event.Enter ls) Handed.Nothing v u g s) e
+      one v after g e = replied_good (null set.names) after (master_posts set (Event.Enter ls) Handed.Nothing v) a (λ u s. master_good (Event.Enter ls) Handed.Nothing v u g s) e
 
       go : (b : Bool) → elim b [ true ↦ entered w d | false ↦ given (wait_for set d (Wait.Locks ls) w) later ] ≡ Some a → Good a.walk
       go true e = one w d good e
@@ -127,8 +125,8 @@ module _ (set : Setup) (P : Walk → List Entry → Type 0) (posts : (h : Handed
 
   pub answer_good : (c : Call) (d : Definitions) (w : Walk) (a : Answered) → Good w → answer set c d w ≡ Some a → Good a.walk
   answer_good (Call.Sends Request.Count) d w a good q = one_good _ d (Event.Ask (count w.core)) w a good q
-  answer_good (Call.Sends (Request.Print t)) d w a good q = one_good (null set) d (Event.Print t) w a good q
-  answer_good Call.Leave d w a good q = one_good (null set) d Event.Leave w a good q
+  answer_good (Call.Sends (Request.Print t)) d w a good q = one_good (null set.names) d (Event.Print t) w a good q
+  answer_good Call.Leave d w a good q = one_good (null set.names) d Event.Leave w a good q
   answer_good (Call.Enter ls) d w a good q = enter_good d ls w a good q
   answer_good (Call.Sends (Request.Outside e)) d w a good q = by_form_good d (form set w.core d e) w a good q
   answer_good (Call.Sends (Request.Access e)) d w a good q = absurd (none≢some q)
@@ -151,7 +149,7 @@ module _ (set : Setup) (P : Walk → List Entry → Type 0) (posts : (h : Handed
           let s = opened (play_along set t ran.walk) (λ x. Some (k x)) r e' in
           subst (λ x. Good x.walk) (some_is s.2) (subst Good (sym (same s.0)) (play_good t ran.walk s.0 good s.1))
 
-      go : (b : Bool) → elim b [ true ↦ Some (record ran { lines = ran.lines ++ out_line set.names n (name set.names Builtin.Aborted) }) | false ↦ given (play_along set t ran.walk) (λ s. Some (after_cell set n ran s)) ] ≡ Some r → Good r.walk
+      go : (b : Bool) → elim b [ true ↦ Some (record ran { lines = ran.lines ++ out_line set.names n (aborted set.names) }) | false ↦ given (play_along set t ran.walk) (λ s. Some (after_cell set n ran s)) ] ≡ Some r → Good r.walk
       go true e' = subst (λ x. Good x.walk) (some_is e') good
       go false e' = walked (after_cell set n ran) (λ s. refl) e'
 

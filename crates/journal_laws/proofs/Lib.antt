@@ -14,3 +14,4 @@ mod Closed
 mod Cutting
 mod Tidy
 mod Insides
+mod StandIn

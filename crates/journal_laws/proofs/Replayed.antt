@@ -1,6 +1,6 @@
 -- A legal journal is a replay: what the run posts along it is its entries, and the core at its end is their fold.
 use Rattle.std.proofs.Common.{◌≡◌, refl, sym, ap, subst, ◌∙◌, Bool, true, false, List, [], ◌∷◌, ◌++◌, length, append-nil, Option, Some, None, true≢false}
-use Rattle.journal.specs.Table.{given, when}
+use Rattle.journal.specs.Places.{given, when}
 use Rattle.journal.specs.Entry.{Event, Entry, Posted, Handed}
 use Rattle.journal.specs.Core.{Setup, Core, start, step, allowed, effect, replay, replay_from}
 use Rattle.journal.specs.Run.{Walk, post, master_posts, Reading, run, closes, posted_by, is_over}

@@ -1,6 +1,6 @@
 -- A journal that grows by one entry: the core makes one step, and each kernel's view one.
 use Rattle.std.proofs.Common.{◌≡◌, refl, ap, ◌∙◌, ℕ, Bool, true, false, List, [], ◌∷◌, ◌++◌, Option, Some, None}
-use Rattle.journal.specs.Table.{given}
+use Rattle.journal.specs.Places.{given}
 use Rattle.journal.specs.Entry.{Posted}
 use Rattle.journal.specs.Core.{Setup, Core, start, step, allowed, effect, replay, replay_from}
 use Rattle.journal.specs.Follow.{View, watch, watch_from, first_view, kernel_run}

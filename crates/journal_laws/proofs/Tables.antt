@@ -7,7 +7,7 @@ use Rattle.std.specs.Ordering.{is_eq, nat_cmp, ordering_then}
 use Rattle.std.specs.Cmp.{ranked}
 use Rattle.expr_tree.specs.declared.sym.Sym.{Sym}
 use Rattle.expr_tree.specs.Order.{symbol_cmp, same_symbol}
-use Rattle.journal.specs.Table.{nth, change_at, each_from, is_some}
+use Rattle.journal.specs.Places.{nth, change_at, each_from, is_some}
 
 pub both : (a b : Bool) → (a && b) ≡ true → (a ≡ true) × (b ≡ true)
 both true true e = (refl, refl)

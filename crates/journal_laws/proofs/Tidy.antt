@@ -1,11 +1,11 @@
 -- Along replies that are values, an evaluation enters a section only outside one, leaves one only inside, and ends as it began, but at Quit.
-use Rattle.std.proofs.Common.{◌≡◌, refl, sym, ap, subst, ◌∙◌, ℕ, zero, suc, Bool, true, false, T, not, List, Option, Some, None, is_some, true≢false}
+use Rattle.std.proofs.Common.{◌≡◌, refl, sym, ap, subst, ◌∙◌, ℕ, zero, suc, Bool, true, false, T, not, List, Option, Some, None, is_some}
 use Rattle.expr_tree.specs.declared.sym.Sym.{Sym}
 use Rattle.expr_tree.specs.declared.limits.Stop.{Stop}
 use Rattle.expr_tree.specs.Tree.{Tree}
 use Rattle.expr_tree.specs.Order.{same}
 use Rattle.semantics.specs.Definitions.{Definitions}
-use Rattle.semantics.specs.Program.{Prog, Done, Stops, Quits, Ask, Within, Section, Open, Look, Put, Fresh, Turn, Check, Outer, Moded, Shown, Call, Request, Sends, Enter, Leave}
+use Rattle.semantics.specs.Program.{Prog, Done, Stops, Quits, Ask, Within, Section, Open, Look, Put, Fresh, Turn, Check, Outer, Moded, Shown, Call, Request, Sends}
 use Rattle.semantics.specs.Pass.{pass}
 use Rattle.semantics.specs.Play.{Setting, State, End, Value, Stopped, Quit, Closed, Starved, Reply, Replied, Play, Over, Calls, Evaluator, ending, on_value, without_locals, calling, unless_stopped, stepped, settled, if_number_left, all_among, by_locks, sectioned, leaving, opened, run, changed, judged, passes, eval_at, begun, whole, with_definitions}
 use Rattle.semantics.specs.Opened.{opens, may_call}

@@ -3,18 +3,16 @@ use Rattle.std.proofs.Common.{◌≡◌, refl, sym, ap, subst, ◌∙◌, ℕ, s
 use Rattle.std.specs.Prelude.{◌&&◌, not, ◌==◌, ltb, pos, replicate}
 use Rattle.expr_tree.specs.declared.sym.Sym.{Sym}
 use Rattle.expr_tree.specs.Tree.{Tree, integer, depth}
-use Rattle.semantics.specs.Builtin.{Builtin}
-use Rattle.semantics.specs.Names.{name}
 use Rattle.semantics.specs.Definitions.{Definitions, empty}
 use Rattle.semantics.specs.Program.{Request, Call, Mode}
 use Rattle.semantics.specs.Play.{Reply, Play, Over, Calls, whole}
-use Rattle.journal.specs.Table.{nth, change_at, given, when, is_some}
+use Rattle.journal.specs.Places.{nth, change_at, given, when, is_some}
 use Rattle.journal.specs.Closure.{bundle}
 use Rattle.journal.specs.Entry.{Event, Entry, Item, Posted, Handed, Wait, Loss}
-use Rattle.journal.specs.Core.{Setup, Core, Kernel, new_kernel, start, step, attempt_of, allowed, effect, permitted, kernel_after, wait_after, all_free, wait_reply, count, in_mode}
+use Rattle.journal.specs.Core.{null, aborted, Setup, Core, Kernel, new_kernel, start, step, attempt_of, allowed, effect, permitted, kernel_after, wait_after, all_free, wait_reply, count, in_mode}
 use Rattle.journal.specs.Follow.{Wants, Delivers, Quits, Phase, Free, At, Lost, View, heard, stand_in_entry, entry_of, watch, watch_from, first_view, kernel_run, all_run, item_of, with_handed}
 use Rattle.journal.specs.Forms.{Next, Replies, Awaits, Form, Answers, Submits, form}
-use Rattle.journal.specs.Run.{Walk, post, post_next, master_posts, is_event, is_resume, until_resume, wait_for, seeds_of, submit_all, Answered, replied, null, by_next, by_form, answer, Finish, play_along, Reading, Reads, Unread, Ran, run_cell, run_cells, first_losses, first_walk, is_loss, run, closes, posted_by, is_over, legal, after_cell, out_line}
+use Rattle.journal.specs.Run.{Walk, post, post_next, master_posts, is_event, is_resume, until_resume, wait_for, seeds_of, submit_all, Answered, replied, by_next, by_form, answer, Finish, play_along, Reading, Reads, Unread, Ran, run_cell, run_cells, first_losses, first_walk, is_loss, run, closes, posted_by, is_over, legal, after_cell, out_line}
 use Rattle.journal_laws.specs.Laws.{entries_of}
 use Rattle.journal_laws.proofs.Tables.{both, none≢some, some_is, split}
 use Rattle.journal_laws.proofs.Equal.{is_event-eq}
@@ -59,7 +57,7 @@ record Sound (set : Setup) (c : Core) (ps : List Posted) : Type 0 where
   lone : Lone c
   synced : (v : View) → kernel_run set 0 ps ≡ Some v → Synced v.phase (attempt_of c 0)
 
-attempt_after : (set : Setup) (c : Core) (h : Handed) (v : View) (x y : Phase) (e : Event) (row : Kernel)
+pub attempt_after : (set : Setup) (c : Core) (h : Handed) (v : View) (x y : Phase) (e : Event) (row : Kernel)
     → permitted set c h 0 e ≡ true → Synced x (row.attempt) → stand_in_entry set v x e ≡ Some y → Synced y (kernel_after e row).attempt
 attempt_after set c h v (Free d) y (Event.Take id) row ok s q =
     let t = opened (item_of v.items id) (λ i. Some (At id _)) y q in
@@ -372,20 +370,20 @@ one_alike set v d event w x a b al q p =
     replied_alike v v d d (master_posts set event Handed.Nothing w) (master_posts set event Handed.Nothing x) a b refl refl (λ u y. master_alike set event Handed.Nothing w x u y al) q p
 
 enter_same : (set : Setup) (d : Definitions) (ls : List Sym) (w x : Walk) (a b : Answered) (free : Bool) → Alike w x → Sounds set w
-    → elim free [ true ↦ replied (null set) d (master_posts set (Event.Enter ls) Handed.Nothing w) | false ↦ given (wait_for set d (Wait.Locks ls) w) (λ r. replied (null set) (r.1).core.definitions (master_posts set (Event.Enter ls) Handed.Nothing r.1)) ] ≡ Some a
-    → elim free [ true ↦ replied (null set) d (master_posts set (Event.Enter ls) Handed.Nothing x) | false ↦ given (wait_for set d (Wait.Locks ls) x) (λ r. replied (null set) (r.1).core.definitions (master_posts set (Event.Enter ls) Handed.Nothing r.1)) ] ≡ Some b
+    → elim free [ true ↦ replied (null set.names) d (master_posts set (Event.Enter ls) Handed.Nothing w) | false ↦ given (wait_for set d (Wait.Locks ls) w) (λ r. replied (null set.names) (r.1).core.definitions (master_posts set (Event.Enter ls) Handed.Nothing r.1)) ] ≡ Some a
+    → elim free [ true ↦ replied (null set.names) d (master_posts set (Event.Enter ls) Handed.Nothing x) | false ↦ given (wait_for set d (Wait.Locks ls) x) (λ r. replied (null set.names) (r.1).core.definitions (master_posts set (Event.Enter ls) Handed.Nothing r.1)) ] ≡ Some b
     → Fine set a.walk → Fine set b.walk → AlikeAnswers a b
-enter_same set d ls w x a b true al sound q p fine fine' = one_alike set (null set) d (Event.Enter ls) w x a b al q p
+enter_same set d ls w x a b true al sound q p fine fine' = one_alike set (null set.names) d (Event.Enter ls) w x a b al q p
 enter_same set d ls w x a b false al sound q p fine fine' =
     let one = opened (wait_for set d (Wait.Locks ls) w) later a q in
     let two = opened (wait_for set d (Wait.Locks ls) x) later b p in
     let pair = wait_alike set d (Wait.Locks ls) w x one.0 two.0 al sound one.1 two.1 (mid (one.0).1 a one.2 fine) (mid (two.0).1 b two.2 fine') in
-    replied_alike (null set) (null set) ((one.0).1).core.definitions ((two.0).1).core.definitions
+    replied_alike (null set.names) (null set.names) ((one.0).1).core.definitions ((two.0).1).core.definitions
     (master_posts set (Event.Enter ls) Handed.Nothing (one.0).1) (master_posts set (Event.Enter ls) Handed.Nothing (two.0).1) a b refl (ap (λ c. c.definitions) (pair.1).core)
     (λ u y. master_alike set (Event.Enter ls) Handed.Nothing (one.0).1 (two.0).1 u y pair.1) one.2 two.2
   where
     entered : Walk → Option Answered
-    entered v = replied (null set) v.core.definitions (master_posts set (Event.Enter ls) Handed.Nothing v)
+    entered v = replied (null set.names) v.core.definitions (master_posts set (Event.Enter ls) Handed.Nothing v)
 
     later : List Tree × Walk → Option Answered
     later r = entered r.1
@@ -393,7 +391,7 @@ enter_same set d ls w x a b false al sound q p fine fine' =
     mid : (v : Walk) (c : Answered) → entered v ≡ Some c → Fine set c.walk → Fine set v
     mid v c e f =
         fine_before set v c.walk
-        (Kept.replied_good set (Begun v.posted) (begun_post set v.posted) (null set) v.core.definitions (master_posts set (Event.Enter ls) Handed.Nothing v) c
+        (Kept.replied_good set (Begun v.posted) (begun_post set v.posted) (null set.names) v.core.definitions (master_posts set (Event.Enter ls) Handed.Nothing v) c
         (λ u s. Kept.master_good set (Begun v.posted) (begun_post set v.posted) (Event.Enter ls) Handed.Nothing v u (begun_at v) s) e) f
 
 answer_same : (set : Setup) (c : Call) (d : Definitions) (w x : Walk) (a b : Answered) → w.core ≡ x.core → Alike w x → Sounds set w
@@ -406,8 +404,8 @@ answer_same set c d w x a b core al sound q p fine fine' =
 
     go : (c' : Call) → answer set c' d (over w x) ≡ Some a → answer set c' d x ≡ Some b → AlikeAnswers a b
     go (Call.Sends Request.Count) q' p' = one_alike set (integer (pos (count x.core))) d (Event.Ask (count x.core)) (over w x) x a b (over_alike w x) q' p'
-    go (Call.Sends (Request.Print t)) q' p' = one_alike set (null set) d (Event.Print t) (over w x) x a b (over_alike w x) q' p'
-    go Call.Leave q' p' = one_alike set (null set) d Event.Leave (over w x) x a b (over_alike w x) q' p'
+    go (Call.Sends (Request.Print t)) q' p' = one_alike set (null set.names) d (Event.Print t) (over w x) x a b (over_alike w x) q' p'
+    go Call.Leave q' p' = one_alike set (null set.names) d Event.Leave (over w x) x a b (over_alike w x) q' p'
     go (Call.Enter ls) q' p' = enter_same set d ls (over w x) x a b (all_free x.core ls) (over_alike w x) sound' q' p' fine fine'
     go (Call.Sends (Request.Outside e)) q' p' = by_form_alike set d (form set x.core d e) (over w x) x a b (over_alike w x) sound' q' p' fine fine'
     go (Call.Sends (Request.Access e)) q' p' = absurd (none≢some q')
@@ -451,7 +449,7 @@ cell_alike set n (Unread at) f g a b al sound q p fine fine' = runs_alike q p (r
 cell_alike set n (Reads e) f g a b al sound q p fine fine' = go (ltb set.limits.depth (depth e)) q p
   where
     deep : Ran → Ran
-    deep x = record x { lines = x.lines ++ out_line set.names n (name set.names Builtin.Aborted) }
+    deep x = record x { lines = x.lines ++ out_line set.names n (aborted set.names) }
 
     go : (k : Bool)
         → elim k [ true ↦ Some (deep f) | false ↦ given (play_along set (whole (in_mode set Mode.Cell 0) f.definitions e) f.walk) (λ s. Some (after_cell set n f s)) ] ≡ Some a

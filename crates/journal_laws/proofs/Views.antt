@@ -3,7 +3,7 @@ use Rattle.std.proofs.Common.{◌≡◌, refl, sym, ap, subst, ◌∙◌, ℕ, z
 use Rattle.std.specs.Prelude.{not, ◌==◌, ◌≤◌, replicate}
 use Rattle.semantics.specs.Program.{Request, Call}
 use Rattle.semantics.specs.Play.{Reply}
-use Rattle.journal.specs.Table.{nth, change_at, given}
+use Rattle.journal.specs.Places.{nth, change_at, given}
 use Rattle.journal.specs.Closure.{Bundle}
 use Rattle.journal.specs.Entry.{Event, Item, Posted, Loss}
 use Rattle.journal.specs.Core.{Setup, Core, Kernel, new_kernel, start, attempt_of, allowed, kernel_after, effect, replay_from}

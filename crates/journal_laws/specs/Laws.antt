@@ -1,13 +1,19 @@
 -- Statements over all journals.
+--     SectionsApart, OneResult, AllHaveResults      sections that share a lock; results of an item
+--     LegalReplays, OneJournal                      legal journals are replays; with no kernels there is one
+--     RunGrows, EntryByEntry                        journals that grow
+--     AttemptsAgree, PhaseIsAttempt                 attempts of the core, items and kernels
+--     AttemptsOrdered, LocksAgree                   sections of attempts, and the locks of the core
+--     ClosureIsLeast, CutsPartition                 what is computed of definitions and of lists
 use Rattle.std.specs.Prelude.{◌≡◌, ℕ, zero, suc, ◌≤◌, List, [], ◌∷◌, ◌++◌, length, Bool, true, false, not, T, Option, Some, None}
 use Rattle.expr_tree.specs.declared.sym.Sym.{Sym}
 use Rattle.expr_tree.specs.Tree.{Tree}
 use Rattle.semantics.specs.Names.{Names}
 use Rattle.semantics.specs.Definitions.{Definitions}
-use Rattle.semantics.specs.Program.{Request, Call}
+use Rattle.semantics.specs.Program.{Call}
 use Rattle.semantics.specs.Play.{Reply, Play}
 use Rattle.semantics.specs.Opened.{opens, may_call}
-use Rattle.journal.specs.Table.{member}
+use Rattle.journal.specs.Places.{member}
 use Rattle.journal.specs.Closure.{InClosure, reaches, closure}
 use Rattle.journal.specs.Cuts.{Method, Per, cut}
 use Rattle.journal.specs.Entry.{Wait, Event, Entry, Item, Posted}
@@ -85,10 +91,10 @@ Matches (Free d) o = o ≡ None
 Matches (At id a) o = o ≡ Some id
 Matches Lost o = o ≡ None
 
--- a kernel that follows its evaluations has the attempt that it is in
+-- a kernel, or with 0 the stand-in, that follows its evaluations has the attempt that it is in
 abbrev pub PhaseIsAttempt : Type 0
 PhaseIsAttempt =
-    (set : Setup) (k : ℕ) (ps : List Posted) (c : Core) (v : View) → suc k ≤ set.kernels → replay set ps ≡ Some c → kernel_run set (suc k) ps ≡ Some v → Matches v.phase (attempt_of c (suc k))
+    (set : Setup) (k : ℕ) (ps : List Posted) (c : Core) (v : View) → k ≤ set.kernels → replay set ps ≡ Some c → kernel_run set k ps ≡ Some v → Matches v.phase (attempt_of c k)
 
 -- ---- what an item takes with it
 

@@ -43,7 +43,7 @@ pub fn attempts_agree_with_items()
     ensures law { AttemptsAgree }
 {}
 
-/// A kernel that follows its evaluations has, in the core, the attempt that it is in.
+/// A kernel that follows its evaluations has, in the core, the attempt that it is in; so has the stand-in.
 pub fn phase_is_the_attempt()
     ensures law { PhaseIsAttempt }
 {}

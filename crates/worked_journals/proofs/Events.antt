@@ -3,7 +3,7 @@ use Rattle.std.proofs.Common.{◌≡◌, refl, ℕ, List, [], ◌∷◌, ◌++�
 use Rattle.expr_tree.specs.declared.sym.Sym.{Sym}
 use Rattle.expr_tree.specs.Tree.{Tree}
 use Rattle.semantics.specs.Definitions.{empty}
-use Rattle.journal.specs.Table.{given}
+use Rattle.journal.specs.Places.{given}
 use Rattle.journal.specs.Closure.{bundle, symbols_of}
 use Rattle.journal.specs.Entry.{Event, Wait, Loss, Item, Handed, Posted}
 use Rattle.journal.specs.Core.{Setup, Core, start, step, replay, wait_reply}

@@ -1,7 +1,7 @@
 -- The parallel forms of a cell: values in place order whatever the interleaving, methods, several iterators, the first success, the first result.
 use Rattle.std.proofs.Common.{◌≡◌, refl, ℕ, true, false, List, [], ◌∷◌, ◌++◌, Some}
 use Rattle.std.specs.Prelude.{codes}
-use Rattle.expr_tree.specs.Tree.{Tree, string, call}
+use Rattle.expr_tree.specs.Tree.{Tree, call}
 use Rattle.semantics.specs.Builtin.{Builtin}
 use Rattle.semantics.specs.Names.{name}
 use Rattle.journal.specs.Entry.{Entry, Event, Wait}
