@@ -1,6 +1,6 @@
 mod Again
 mod Unique
 mod Refused
-mod Spelled
+pub mod Spelled
 mod Endings
 mod Coding

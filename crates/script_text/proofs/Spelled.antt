@@ -12,16 +12,16 @@ use Rattle.script_text.specs.Spelling.{Spelled, spelled, numbered, plain, is_num
 own : IsNumeralModel (λ ds. all is_digit ds ≡ true) (number_after 0)
 own = numerals_by_fold _ (search rules) number_after (search rules)
 
-both_true : (a b : Bool) → (a && b) ≡ true → (a ≡ true) × (b ≡ true)
+pub both_true : (a b : Bool) → (a && b) ≡ true → (a ≡ true) × (b ≡ true)
 both_true true b e = (refl, e)
 both_true false b e = absurd (true≢false (sym e))
 
-reverse_cons : (c : ℕ) (cs : List ℕ) → reverse (c ∷ cs) ≡ reverse cs ++ (c ∷ [])
+pub reverse_cons : (c : ℕ) (cs : List ℕ) → reverse (c ∷ cs) ≡ reverse cs ++ (c ∷ [])
 reverse_cons c cs = reverse-append (c ∷ []) cs
 
 -- ---- the digits at the end
 
-front_passes : (test : ℕ → Bool) (cs : List ℕ) → all test (take (run test cs) cs) ≡ true
+pub front_passes : (test : ℕ → Bool) (cs : List ℕ) → all test (take (run test cs) cs) ≡ true
 front_passes test [] = refl
 front_passes test (c ∷ cs) = go (test c) refl (front_passes test cs)
   where
@@ -35,7 +35,7 @@ all-append test (c ∷ s) t p q =
     let both = both_true (test c) (all test s) p in
     rw both.0 (all-append test s t both.1 q)
 
-all-reverse : (test : ℕ → Bool) (s : List ℕ) → all test s ≡ true → all test (reverse s) ≡ true
+pub all-reverse : (test : ℕ → Bool) (s : List ℕ) → all test s ≡ true → all test (reverse s) ≡ true
 all-reverse test [] p = refl
 all-reverse test (c ∷ s) p =
     let both = both_true (test c) (all test s) p in
