@@ -4,8 +4,8 @@ use Rattle.std.specs.Prelude.{◌==◌, map, nat_lt, Option, Some, None}
 use Rattle.std.specs.List.{position_or_len, list_all}
 use Rattle.std.proofs.lemmas.Bool.Decides.{nat_tests}
 use Rattle.std.proofs.lemmas.List.{drop-drop, append-nil}
-use Rattle.script_text.specs.Bytes.{all, joined, each_after, is_space}
-use Rattle.script_text.specs.Cells.{Line, Runs, lines, in_first, is_blank, and_line, runs, all_runs, with_first, cell_text, cells}
+use Rattle.script_text.specs.Bytes.{all, each_after}
+use Rattle.script_text.specs.Cells.{Line, Runs, lines, in_first, is_blank, and_line, runs, all_runs, cell_text, cells}
 
 abbrev pub first_len : List ℕ → ℕ
 first_len xs = position_or_len (λ c. c == 10) xs

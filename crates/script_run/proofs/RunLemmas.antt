@@ -1,8 +1,6 @@
 -- From what was read and written to what a run promises
-use Rattle.std.proofs.Common.{◌≡◌, ℕ, ◌≤◌, List, length, arith, refl, sym, subst}
+use Rattle.std.proofs.Common.{ℕ, List}
 use Rattle.std.specs.Prelude.{Ok}
-use Rattle.std.specs.declared.option.Option.{Option}
-use Rattle.std.specs.Io.KnownBytes.{Consumes, IsAtEnd}
 use Rattle.port_io.specs.Reading.{IsRead}
 use Rattle.script_run.specs.Words.{AreRead}
 use Rattle.script_run.specs.Promise.{Known, Ends, IsWhole, Writes, Runs, limit}

@@ -1,5 +1,5 @@
 -- Bytes that are appended piece by piece
-use Rattle.std.proofs.Common.{◌≡◌, refl, ap, sym, ◌∙◌, ℕ, List, [], ◌++◌, append_assoc}
+use Rattle.std.proofs.Common.{ap, sym, ◌∙◌, ℕ, List, [], ◌++◌, append_assoc}
 use Rattle.std.specs.Prelude.{None, Some}
 use Rattle.std.proofs.lemmas.List.{append-nil}
 use Rattle.std.specs.declared.option.Option.{Option}

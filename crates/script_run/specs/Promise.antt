@@ -4,7 +4,7 @@
 --     Writes               what was written of a script
 --     Ends, Runs           both ends as they stand; what was read and written between two moments
 -- Each Option is the bytes that the source has left, or that the sink holds, where they are told; each count is that of failures.
-use Rattle.std.specs.Prelude.{◌≡◌, ℕ, zero, suc, ◌+◌, ◌≤◌, ◌<◌, List, [], ◌++◌, length, take}
+use Rattle.std.specs.Prelude.{ℕ, zero, suc, ◌+◌, ◌≤◌, ◌<◌, List, [], ◌++◌, length, take}
 use Rattle.std.specs.declared.option.Option.{Option}
 use Rattle.std.specs.Io.KnownBytes.{Consumes, IsAtEnd, Appends}
 use Rattle.script_text.specs.Cells.{cells}

@@ -1,5 +1,4 @@
-use Rattle.std.proofs.Common.{◌+◌, ◌<◌, ◌≤◌, drop, take, length, arith, sym, ◌∙◌, ap, length-drop, ℕ, false, true, ◌≡◌}
-use Rattle.std.proofs.lemmas.List.{drop-drop}
+use Rattle.std.proofs.Common.{◌+◌, ◌≤◌, drop, take, length, arith, sym, ◌∙◌, length-drop, ℕ, false, ◌≡◌}
 use Rattle.script_text.specs.Cells.{is_blank}
 use Rattle.script_run.proofs.CellLemmas.{cell_begins_at, cell_grows_at, cell_ends_at, feed_first_at, filled_line, first_len, feed_later}
 use Rattle.script_run.proofs.cells.cell_len.Goals as goal

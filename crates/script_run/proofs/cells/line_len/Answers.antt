@@ -1,5 +1,5 @@
-use Rattle.std.proofs.Common.{rules, tests, Option, ℕ, ◌≡◌, cond, length, Some, None}
-use Rattle.std.specs.Prelude.{◌==◌, nat_lt}
+use Rattle.std.proofs.Common.{rules, tests}
+use Rattle.std.specs.Prelude.{◌==◌}
 use Rattle.std.proofs.lemmas.Iterator.{YieldsList-from_slice}
 use Rattle.std.proofs.lemmas.Iterator.Search.{position_from_yields_List}
 use Rattle.script_run.proofs.CellLemmas.{some_at, none_at}
