@@ -1,0 +1,4 @@
+pub mod CellLemmas
+pub mod WordLemmas
+pub mod WritingLemmas
+pub mod RunLemmas

@@ -1,0 +1,53 @@
+//! A run of a script without kernels.
+ghost use Rattle.std.specs.Prelude.{◌≡◌, ◌≤◌, map, string_bytes};
+ghost use Rattle.script_run.specs.Promise.{Ends, Runs};
+
+use crate::report::{Report, Status};
+use crate::words::are_read;
+use crate::writing::write_cells;
+use port_io::{ReadNo, Sink, Source, read_all};
+use std::alloc::Global;
+
+/// The most bytes that a script has.
+const LIMIT: u64 = 1_048_576;
+
+/// Reads a script, runs its cells and writes a line for each, without waiting.
+#[tactic(auto, using(crate::proofs::RunLemmas::run_steps))]
+pub fn run_alone<S: Source, K: Sink>(
+    alloc: Global,
+    words: &[String],
+    source: &mut S,
+    sink: &mut K,
+) -> Report
+    ensures outcome { let before : Ends = record { left = S.left source.old; read_faults = S.faults source.old; held = K.held sink.old; write_faults = K.faults sink.old } in
+        let after : Ends = record { left = S.left source.new; read_faults = S.faults source.new; held = K.held sink.new; write_faults = K.faults sink.new } in
+        Runs (map string_bytes words.now) before after result.status }
+    ensures untouched { result.status ≡ Status.Usage → (source.new ≡ source.old) × (sink.new ≡ sink.old) }
+    ensures unread { result.status ≡ Status.ReadFault → sink.new ≡ sink.old }
+    ensures too_long { result.status ≡ Status.TooLong → sink.new ≡ sink.old }
+    ensures read_counted { S.faults source.old ≤ S.faults source.new }
+    ensures write_counted { K.faults sink.old ≤ K.faults sink.new }
+{
+    if !are_read(words) {
+        return Report {
+            status: Status::Usage,
+        };
+    }
+    match read_all(alloc, source, LIMIT) {
+        Ok(script) => Report {
+            status: write_cells(alloc, script.as_slice(), sink),
+        },
+        Err(ReadNo::Fault) => Report {
+            status: Status::ReadFault,
+        },
+        Err(ReadNo::TooLong) => Report {
+            status: Status::TooLong,
+        },
+        Err(ReadNo::NoMemory) => Report {
+            status: Status::NoMemory,
+        },
+    }
+}
+
+#[cfg(test)]
+mod tests;
