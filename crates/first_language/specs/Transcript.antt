@@ -1,18 +1,28 @@
 -- The lines that a script of the first language prints.
+--     is_ascii             whether no byte is above 127
 --     IsBuilt              the text is the full form of a cell of the language that has a value
 --     PrintsCell           the line of one cell
 --     Prints               the lines of some cells
-use Rattle.std.specs.Prelude.{◌≡◌, ℕ, ℤ, ◌+◌, ◌≤◌, List, [], ◌∷◌, ◌++◌, Option, Some, None, IsTrue, codes}
+--     names_of             the names of a script, by its cells
+use Rattle.std.specs.Prelude.{◌≡◌, ℕ, ℤ, ◌+◌, ◌≤◌, ltb, Bool, true, false, List, [], ◌∷◌, ◌++◌, Option, Some, None, IsTrue, codes}
 use Rattle.std.specs.Fmt.{decimal, signed_decimal}
-use Rattle.expr_tree.specs.Tree.{Tree, depth}
-use Rattle.script_text.specs.Spelling.{Spelling}
+use Rattle.expr_tree.specs.Tree.{Tree, size, depth}
+use Rattle.script_text.specs.Bytes.{all}
+use Rattle.script_text.specs.FullNames.{names_in}
+use Rattle.script_text.specs.Spelling.{Spelling, bases}
 use Rattle.script_text.specs.FullForm.{IsFullFormOf}
 use Rattle.first_language.specs.Terms.{Own, is_cell, is_known, term_of, value_of_cell, after}
 
+-- no byte is above 127
+abbrev pub is_ascii : List ℕ → Bool
+is_ascii text = all (λ c. ltb c 128) text
+
 -- the text is the full form of a cell of at most 200 levels whose names all have values
 pub record IsBuilt (spelling : Spelling) (own : Own) (text : List ℕ) (e : Tree) : Type 0 where
+  pub ascii : IsTrue (is_ascii text)
   pub form : IsFullFormOf spelling e text
   pub cell : IsTrue (is_cell spelling e)
+  pub small : size e ≤ 4000000
   pub shallow : depth e ≤ 200
   pub known : IsTrue (is_known own (term_of spelling e))
 
@@ -39,3 +49,15 @@ pub data Prints (spelling : Spelling) : Own → ℕ → List (List ℕ) → List
   none : {own : Own} {n : ℕ} → Prints spelling own n [] []
   next : {own later : Own} {n : ℕ} {text line : List ℕ} {texts lines : List (List ℕ)}
       → PrintsCell spelling own n text line later → Prints spelling later (n + 1) texts lines → Prints spelling own n (text ∷ texts) (line ∷ lines)
+
+-- the names that stand in the cells
+abbrev pub written_names : List (List ℕ) → List (List ℕ)
+written_names [] = []
+written_names (text ∷ texts) = elim (is_ascii text) [ true ↦ names_in text ++ written_names texts | false ↦ written_names texts ]
+
+abbrev pub known_names : List (List ℕ)
+known_names = codes "Plus" ∷ codes "Set" ∷ []
+
+-- the bases of these and of the two names that the language knows
+abbrev pub names_of : List (List ℕ) → List (List ℕ)
+names_of texts = bases (known_names ++ written_names texts)
