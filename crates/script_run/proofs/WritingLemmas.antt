@@ -1,9 +1,12 @@
--- Bytes that are appended piece by piece
-use Rattle.std.proofs.Common.{ap, sym, ◌∙◌, ℕ, List, [], ◌++◌, append_assoc}
+-- Bytes that are appended piece by piece, and the beginning of a script
+use Rattle.std.proofs.Common.{refl, ap, sym, ◌∙◌, ℕ, List, [], ◌++◌, append_assoc}
 use Rattle.std.specs.Prelude.{None, Some}
 use Rattle.std.proofs.lemmas.List.{append-nil}
 use Rattle.std.specs.declared.option.Option.{Option}
 use Rattle.std.specs.Io.KnownBytes.{Appends}
+use Rattle.script_text.specs.Cells.{cells}
+use Rattle.first_language.specs.Transcript.{none}
+use Rattle.script_run.specs.Promise.{Begins}
 
 pub appends-nothing : (held : Option (List ℕ)) → Appends held held []
 appends-nothing None = tt
@@ -15,4 +18,7 @@ appends-more (Some us) None c xs ys first second = absurd first
 appends-more (Some us) (Some bs) None xs ys first second = absurd second
 appends-more (Some us) (Some bs) (Some cs) xs ys first second = second ∙ (ap (λ r. r ++ ys) first ∙ append_assoc us xs ys)
 
-pub ruleset writing_steps = (appends-nothing, appends-more)
+pub begins_nothing : (script : List ℕ) → Begins script []
+begins_nothing script = ([], cells script, refl, none)
+
+pub ruleset writing_steps = (appends-nothing, appends-more, begins_nothing)

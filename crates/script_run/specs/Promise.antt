@@ -1,14 +1,17 @@
 -- What a run promises, by its status.
---     transcript           the lines of the first m cells
+--     IsTranscript         the lines of all cells of a script
+--     Begins               the lines of some cells at the front of a script
 --     IsWhole              the script was read to its end, and has at most 1,048,576 bytes
 --     Writes               what was written of a script
 --     Ends, Runs           both ends as they stand; what was read and written between two moments
 -- Each Option is the bytes that the source has left, or that the sink holds, where they are told; each count is that of failures.
-use Rattle.std.specs.Prelude.{ℕ, zero, suc, ◌+◌, ◌≤◌, ◌<◌, List, [], ◌++◌, length, take}
+use Rattle.std.specs.Prelude.{◌≡◌, ℕ, ◌≤◌, ◌<◌, List, [], ◌∷◌, ◌++◌, length, take}
 use Rattle.std.specs.declared.option.Option.{Option}
 use Rattle.std.specs.Io.KnownBytes.{Consumes, IsAtEnd, Appends}
+use Rattle.script_text.specs.Bytes.{all_joined}
 use Rattle.script_text.specs.Cells.{cells}
-use Rattle.first_language.specs.Transcript.{unbuilt_line}
+use Rattle.script_text.specs.Spelling.{by_texts}
+use Rattle.first_language.specs.Transcript.{Prints, names_of}
 use Rattle.port_io.specs.Counts.{Rose}
 use Rattle.script_run.specs.Words.{AreRead}
 use Rattle.script_run.specs.declared.report.Status.{Status}
@@ -20,19 +23,24 @@ Known = Option (List ℕ)
 abbrev pub limit : ℕ
 limit = 1048576
 
-abbrev pub transcript : ℕ → List ℕ
-transcript zero = []
-transcript (suc m) = transcript m ++ unbuilt_line (m + 1)
+abbrev pub LinesOf : List ℕ → List (List ℕ) → List (List ℕ) → Type 0
+LinesOf script texts lines = Prints (by_texts (names_of (cells script))) [] 1 texts lines
+
+abbrev pub IsTranscript : List ℕ → List (List ℕ) → Type 0
+IsTranscript script lines = LinesOf script (cells script) lines
+
+abbrev pub Begins : List ℕ → List (List ℕ) → Type 0
+Begins script lines = (texts rest : List (List ℕ)) × (cells script ≡ texts ++ rest) × LinesOf script texts lines
 
 abbrev pub IsWhole : Known → Known → List ℕ → Type 0
 IsWhole before now script = Consumes before now script × IsAtEnd now × (length script ≤ limit)
 
--- all lines; or the first m and a part of the next, with a failure that is counted; or the first m
+-- all lines; or lines and a part of the next one, with a failure that is counted; or lines at the front
 abbrev pub Writes : Known → Known → ℕ → ℕ → List ℕ → Status → Type 0
-Writes held after faults rose script Done = Appends held after (transcript (length (cells script)))
+Writes held after faults rose script Done = (lines : List (List ℕ)) × IsTranscript script lines × Appends held after (all_joined lines)
 Writes held after faults rose script WriteFault =
-    Rose faults rose × (m : ℕ) × (n : ℕ) × (m < length (cells script)) × Appends held after (transcript m ++ take n (unbuilt_line (m + 1)))
-Writes held after faults rose script NoMemory = (m : ℕ) × (m ≤ length (cells script)) × Appends held after (transcript m)
+    Rose faults rose × (lines : List (List ℕ)) × (line : List ℕ) × (n : ℕ) × Begins script (lines ++ line ∷ []) × Appends held after (all_joined lines ++ take n line)
+Writes held after faults rose script NoMemory = (lines : List (List ℕ)) × Begins script lines × Appends held after (all_joined lines)
 Writes held after faults rose script Usage = ⊥
 Writes held after faults rose script ReadFault = ⊥
 Writes held after faults rose script TooLong = ⊥
@@ -57,5 +65,5 @@ Runs words before after ReadFault =
 Runs words before after WriteFault = AreRead words × RunsWhole before after WriteFault
 Runs words before after NoMemory =
     AreRead words × (bytes : List ℕ) × Consumes before.left after.left bytes × (length bytes ≤ limit)
-    × (m : ℕ) × (m ≤ length (cells bytes)) × Appends before.held after.held (transcript m)
+    × (lines : List (List ℕ)) × Begins bytes lines × Appends before.held after.held (all_joined lines)
 Runs words before after TooLong = AreRead words × (bytes : List ℕ) × Consumes before.left after.left bytes × (limit < length bytes)

@@ -15,6 +15,7 @@ pub struct Cut<'a> {
 pub fn first_cell(text: &[u8]) -> Option<Cut<'_>>
     ensures cell { MatchOption result (cells text.now ≡ []) (λ cut. cells text.now ≡ cut.cell.now ∷ cells cut.rest.now) }
     ensures shorter { IfSome result (λ cut. length cut.rest.now < length text.now) }
+    ensures within { IfSome result (λ cut. length cut.cell.now + length cut.rest.now ≤ length text.now) }
 {
     let start = skip_blank(text);
     if start.is_empty() {

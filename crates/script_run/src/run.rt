@@ -4,7 +4,7 @@ ghost use Rattle.script_run.specs.Promise.{Ends, Runs};
 
 use crate::report::{Report, Status};
 use crate::words::are_read;
-use crate::writing::write_cells;
+use crate::writing::run_script;
 use port_io::{ReadNo, Sink, Source, read_all};
 use std::alloc::Global;
 
@@ -35,7 +35,7 @@ pub fn run_alone<S: Source, K: Sink>(
     }
     match read_all(alloc, source, LIMIT) {
         Ok(script) => Report {
-            status: write_cells(alloc, script.as_slice(), sink),
+            status: run_script(alloc, script.as_slice(), sink),
         },
         Err(ReadNo::Fault) => Report {
             status: Status::ReadFault,

@@ -27,15 +27,43 @@ fn words_of(alloc: Global, count: &str) -> Result<Vec<String>, Fail> {
     Ok(words)
 }
 
+fn printed(alloc: Global, script: &[u8]) -> Result<MemSink, Fail> {
+    let words = words_of(alloc, "0")?;
+    let mut source = source_of(alloc, Vec::from_slice(alloc, script)?, None)?;
+    let mut sink = MemSink::new(alloc, 1000, calls_of(alloc, None)?)?;
+    let report = run_alone(alloc, words.as_slice(), &mut source, &mut sink);
+    if report.status != Status::Done {
+        sink = MemSink::new(alloc, 0, calls_of(alloc, None)?)?;
+    }
+    Ok(sink)
+}
+
 #[test]
 fn writes_a_line_for_each_cell(rt: HostRuntime) -> Result<(), Fail> {
     let alloc = rt.alloc();
-    let words = words_of(alloc, "0")?;
-    let mut source = source_of(alloc, Vec::from_slice(alloc, b"a\nb\n \n\nc")?, None)?;
-    let mut sink = MemSink::new(alloc, 100, calls_of(alloc, None)?)?;
-    let report = run_alone(alloc, words.as_slice(), &mut source, &mut sink);
-    assert_eq!(rt; report.status, Status::Done);
-    assert_eq!(rt; sink.bytes(), b"Unbuilt[1]\nUnbuilt[2]\n".as_slice());
+    let sink = printed(alloc, b"Set[x, 3]\n\nPlus[x, 4]\n")?;
+    assert_eq!(rt; sink.bytes(), b"Out[1]= 3\nOut[2]= 7\n".as_slice());
+    let sink = printed(alloc, b"1 + 2\n \nPlus[z, 1]\n\nPlus[]")?;
+    assert_eq!(rt;
+        sink.bytes(),
+        b"Unbuilt[1]\nUnbuilt[2]\nOut[3]= 0\n".as_slice()
+    );
+    Ok(())
+}
+
+#[test]
+fn judges_whole_sums(rt: HostRuntime) -> Result<(), Fail> {
+    let alloc = rt.alloc();
+    let sink = printed(alloc, b"Plus[170141183460469231731687303715884105727, 1]")?;
+    assert_eq!(rt; sink.bytes(), b"Out[1]= $Aborted\n".as_slice());
+    let sink = printed(
+        alloc,
+        b"Plus[170141183460469231731687303715884105727, 1, -2]",
+    )?;
+    assert_eq!(rt;
+        sink.bytes(),
+        b"Out[1]= 170141183460469231731687303715884105726\n".as_slice()
+    );
     Ok(())
 }
 
@@ -43,13 +71,14 @@ fn writes_a_line_for_each_cell(rt: HostRuntime) -> Result<(), Fail> {
 fn stops_at_a_fault(rt: HostRuntime) -> Result<(), Fail> {
     let alloc = rt.alloc();
     let words = words_of(alloc, "0")?;
-    let mut source = source_of(alloc, Vec::from_slice(alloc, b"a\n\nb")?, Some(1))?;
+    let script = Vec::from_slice(alloc, b"Set[x, 3]\n\nPlus[x, 4]\n")?;
+    let mut source = source_of(alloc, script, Some(1))?;
     let mut sink = MemSink::new(alloc, 100, calls_of(alloc, Some(2))?)?;
     let report = run_alone(alloc, words.as_slice(), &mut source, &mut sink);
     assert_eq!(rt; report.status, Status::ReadFault);
     let report = run_alone(alloc, words.as_slice(), &mut source, &mut sink);
     assert_eq!(rt; report.status, Status::WriteFault);
-    assert_eq!(rt; sink.bytes(), b"Unbuilt[1]\n".as_slice());
+    assert_eq!(rt; sink.bytes(), b"Out[1]= 3\n".as_slice());
     Ok(())
 }
 

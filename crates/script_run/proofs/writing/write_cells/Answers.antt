@@ -1,14 +1,29 @@
-use Rattle.std.proofs.Common.{◌≡◌, ◌<◌, ◌+◌, ap, ◌∙◌, length, arith}
+use Rattle.std.proofs.Common.{◌≡◌, ◌+◌, ◌∷◌, [], ◌++◌, sym, ap, ◌∙◌, subst, take, arith}
+use Rattle.std.specs.Io.KnownBytes.{Appends}
 use Rattle.script_text.specs.Cells.{cells}
+use Rattle.script_text.specs.Spelling.{by_texts}
 use Rattle.port_io.specs.Counts.{Rose}
-use Rattle.first_language.specs.Transcript.{unbuilt_line}
-use Rattle.script_run.proofs.WritingLemmas.{appends-more}
+use Rattle.script_run.proofs.NameLemmas.{AreKeptCells, script_kept}
+use Rattle.script_run.proofs.TranscriptLemmas.{AreSoFar, none_so_far, one_more, so_far_begins, so_far_all, joined_more}
+use Rattle.script_run.proofs.WritingLemmas.{appends-nothing, appends-more}
 use Rattle.script_run.proofs.writing.write_cells.Goals as goal
 
-pub returns-in-Err-clause-written : goal.returns-in-Err-clause-written
-returns-in-Err-clause-written g c =
-    let text : c.as_bytes.result.now ≡ unbuilt_line (c.loop-cut.written + 1) = c.as_bytes.ensures.value ∙ c.as_str.ensures ∙ c.in-Ok.ensures in
-    let part = rw text at c.in-Err.ensures.bytes.1 in
-    let some : c.loop-cut.written < length (cells c.args.script.now) = omega (arith, c.loop-cut.invariant.1, ap length c.in-Some.ensures.cell) in
-    let rose : Rose (g.K.Sink.faults c.args.sink.now) (g.K.Sink.faults c.write_all.new.self) = omega (arith, c.in-Err.ensures.failed, c.loop-cut.invariant.3) in
-    (rose, c.loop-cut.written, c.in-Err.ensures.bytes.0, some, appends-more _ _ _ _ _ c.loop-cut.invariant.0 part)
+pub loop-cut-init : goal.loop-cut-init
+loop-cut-init g c = record {
+  lines = ([], subst (λ o. AreSoFar (by_texts c.args.names.now.texts) c.args.script.now c.args.script.now o 1 []) (sym c.new-own.ensures) (none_so_far (by_texts c.args.names.now.texts) c.args.script.now), appends-nothing _);
+  kept = subst (λ ts. AreKeptCells ts (cells c.args.script.now)) (sym c.requires) (script_kept (cells c.args.script.now));
+  few = omega arith;
+  counted = omega arith;
+}
+
+pub returns-in_default-clause-written : goal.returns-in_default-clause-written
+returns-in_default-clause-written g c =
+    let so = c.loop-cut.invariant.lines in
+    let own = subst (λ ts. AreSoFar (by_texts ts) c.args.script.now c.loop-cut.rest.now c.loop-cut.own (c.loop-cut.written + 1) so.0) c.requires so.1 in
+    (so.0, so_far_all c.args.script.now c.loop-cut.rest.now c.loop-cut.own (c.loop-cut.written + 1) so.0 own c.in_default.ensures.cell, so.2)
+
+pub returns-in_default-run_cell-clause-written : goal.returns-in_default-run_cell-clause-written
+returns-in_default-run_cell-clause-written g c =
+    let so = c.loop-cut.invariant.lines in
+    let own = subst (λ ts. AreSoFar (by_texts ts) c.args.script.now c.loop-cut.rest.now c.loop-cut.own (c.loop-cut.written + 1) so.0) c.requires so.1 in
+    (so.0, so_far_begins c.args.script.now c.loop-cut.rest.now c.loop-cut.own (c.loop-cut.written + 1) so.0 own, so.2)
