@@ -20,8 +20,7 @@ use Rattle.show_form.specs.Faults.{AreKeptNames}
 -- ---- an expression that is written has only bases of the table
 
 abbrev numbered_by : Bool → List ℕ → List ℕ → List ℕ → Spelled
-numbered_by true t base ds = record { base = base; number = number_after 0 ds }
-numbered_by false t base ds = plain t
+numbered_by k t base ds = elim k [ true ↦ record { base = base; number = number_after 0 ds } | false ↦ plain t ]
 
 empty_base : (t ds rest : List ℕ) → (numbered t ds rest).base ≡ [] → t ≡ []
 empty_base t ds [] e = e
@@ -87,8 +86,7 @@ AreKeptCells texts [] = Unit {0}
 AreKeptCells texts (cell ∷ cells) = (is_ascii cell ≡ true → AreKeptNames texts (names_in cell)) × AreKeptCells texts cells
 
 abbrev with_names : Bool → List ℕ → List (List ℕ) → List (List ℕ)
-with_names true cell cells = names_in cell ++ written_names cells
-with_names false cell cells = written_names cells
+with_names b cell cells = elim b [ true ↦ names_in cell ++ written_names cells | false ↦ written_names cells ]
 
 cells_kept : (all cells : List (List ℕ)) → ((t : List ℕ) → list_any (bytes_eq t) (map base_of (written_names cells)) ≡ true → list_any (bytes_eq t) (map base_of all) ≡ true)
     → AreKeptCells (bases all) cells

@@ -131,8 +131,8 @@ prints_built (Err x) spelling own later n cell e v b value given line = tt
 
 pub prints_unbuilt : {E : Type 0} (r : Result (List ℕ) E) (spelling : Spelling) (own : Own) (n : ℕ) (cell : List ℕ)
     → ((e : Tree) → IsBuilt spelling own cell e → ⊥) → IfOk r (λ t. t ≡ unbuilt_line n) → IfOk r (λ line. PrintsCell spelling own n cell line own)
-prints_unbuilt (Ok t) spelling own n cell no line = subst (λ l. PrintsCell spelling own n cell l own) (sym line) (unbuilt no)
-prints_unbuilt (Err x) spelling own n cell no line = tt
+prints_unbuilt (Ok t) spelling own n cell refused line = subst (λ l. PrintsCell spelling own n cell l own) (sym line) (unbuilt refused)
+prints_unbuilt (Err x) spelling own n cell refused line = tt
 
 pub found_built : (spelling : Spelling) (own : Own) (cell : List ℕ) (r : Option Tree) (e : Tree)
     → MatchOption r ((e : Tree) → IsBuilt spelling own cell e → ⊥) (λ e. IsBuilt spelling own cell e) → r ≡ Some e → IsBuilt spelling own cell e

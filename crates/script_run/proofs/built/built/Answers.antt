@@ -27,4 +27,4 @@ pub returns-in-Err-TooDeep : goal.returns-in-Err-TooDeep
 returns-in-Err-TooDeep c =
     let texts = c.args.names.now.texts in
     let fault = fault_is texts c.in-Some.text.now c.read_full.result c.in-Err-TooDeep.field-0 TooDeep c.read_full.ensures.fault c.in-Err-TooDeep.is c.in-Err-TooDeep.field-0-is in
-    too_deep texts c.args.own.now c.args.cell.now c.texts_are_distinct.ensures fault.0 (subst (λ t. IsFullFormOf (by_texts texts) fault.0 t) c.in-Some.ensures.0 fault.1) fault.2.1
+    too_deep texts c.args.own.now c.args.cell.now c.texts_are_distinct.ensures fault.0 (subst (λ t. IsFullFormOf (by_texts texts) fault.0 t) c.in-Some.ensures.0 fault.1) fault.3
