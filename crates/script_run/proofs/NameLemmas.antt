@@ -1,9 +1,9 @@
 -- The names of a text are kept in the table of a script's names, and expressions that are read have only names of the table.
-use Rattle.std.proofs.Common.{◌≡◌, refl, sym, ap, ◌∙◌, ℕ, zero, suc, ◌+◌, ◌<◌, ◌≤◌, Bool, true, false, true≢false, cond, List, [], ◌∷◌, ◌++◌, length, map, reverse, get_or, drop, take, arith}
+use Rattle.std.proofs.Common.{◌≡◌, refl, sym, ap, ◌∙◌, ℕ, suc, ◌+◌, ◌≤◌, Bool, true, false, true≢false, cond, List, [], ◌∷◌, ◌++◌, length, map, reverse, drop, take, arith}
 use Rattle.std.specs.Prelude.{◌&&◌, ◌||◌, ◌==◌}
 use Rattle.std.specs.List.{list_any, filter}
 use Rattle.std.specs.Str.{bytes_eq}
-use Rattle.std.proofs.lemmas.List.{append-nil, length-append, length-reverse, get_or_past}
+use Rattle.std.proofs.lemmas.List.{append-nil, length-reverse, get_or_past}
 use Rattle.expr_tree.specs.Tree.{Tree, Trees, integer, string, symbol, normal, nil, cons}
 use Rattle.script_text.specs.Bytes.{is_digit, run, in_name, is_name, number_after}
 use Rattle.script_text.specs.Cells.{in_first}

@@ -1,4 +1,4 @@
-use Rattle.std.proofs.Common.{◌≡◌, ◌≤◌, ◌+◌, List, ℕ, length}
+use Rattle.std.proofs.Common.{◌≤◌, ◌+◌, List, ℕ, length}
 use Rattle.std.specs.Io.KnownBytes.{Appends}
 use Rattle.script_text.specs.Bytes.{all_joined}
 use Rattle.script_text.specs.Cells.{cells}
