@@ -66,7 +66,11 @@ fn a_table_of_names_has_the_binders(rt: HostRuntime) -> Result<(), Fail> {
     let mut bindings: Bindings = Items::new(rt.alloc());
     bindings.push((binders.list, Items::new(rt.alloc())))?;
     let made = subst(rt.alloc(), &Expr::symbol(binders.list), &bindings, &names)?;
-    let wanted = Expr::normal(rt.alloc(), Expr::symbol(binders.sequence), Items::new(rt.alloc()))?;
+    let wanted = Expr::normal(
+        rt.alloc(),
+        Expr::symbol(binders.sequence),
+        Items::new(rt.alloc()),
+    )?;
     assert!(rt; made.equals(&wanted));
     Ok(())
 }
