@@ -23,6 +23,15 @@ fn pair(alloc: Global, head: Sym, first: Expr, second: Expr) -> Result<Expr, Fai
     Ok(Expr::normal(alloc, Expr::symbol(head), items)?)
 }
 
+fn made_again(alloc: Global, e: Expr) -> Result<Expr, Fail> {
+    match e.into_node(alloc)? {
+        Node::Int(value) => Ok(Expr::int(value)),
+        Node::Str(value) => Ok(Expr::text(value)),
+        Node::Symbol(value) => Ok(Expr::symbol(value)),
+        Node::Normal(head, items) => Ok(Expr::normal(alloc, Box::into_inner(head), items)?),
+    }
+}
+
 // f[1, "a"]
 #[test]
 fn expressions_are_made_copied_and_taken_apart(rt: HostRuntime) -> Result<(), Fail> {
@@ -33,12 +42,7 @@ fn expressions_are_made_copied_and_taken_apart(rt: HostRuntime) -> Result<(), Fa
     assert_eq!(rt; made.depth(), 2);
     let copied = made.copy(rt.alloc())?;
     assert!(rt; copied.equals(&made));
-    match copied.into_node(rt.alloc())? {
-        Node::Normal(head, items) => {
-            let again = Expr::normal(rt.alloc(), Box::into_inner(head), items)?;
-            assert!(rt; again.equals(&made));
-        }
-        _ => assert!(rt; false),
-    }
+    let again = made_again(rt.alloc(), copied)?;
+    assert!(rt; again.equals(&made));
     Ok(())
 }

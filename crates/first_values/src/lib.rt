@@ -4,6 +4,8 @@
 mod own_values;
 mod sum;
 mod terms;
+#[cfg(test)]
+mod tests;
 mod values;
 
 pub use own_values::OwnValues;

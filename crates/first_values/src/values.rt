@@ -8,7 +8,7 @@ use crate::own_values::OwnValues;
 use crate::sum::{add, judged};
 use expr_tree::{Expr, Node};
 
-/// The value of a term. There is none where a sum in it is out of 128 bits.
+/// The value of a term. There is none where a whole sum in it is out of 128 bits, or a name in it has none.
 #[cycle(value)]
 #[tactic(auto, using(expr_tree::proofs::Callers::tree_steps))]
 pub fn value(own: &OwnValues, e: &Expr) -> Option<i128>
