@@ -52,6 +52,13 @@ fn writes_a_line_for_each_cell(rt: HostRuntime) -> Result<(), Fail> {
 }
 
 #[test]
+fn writes_nothing_for_an_empty_input(rt: HostRuntime) -> Result<(), Fail> {
+    let sink = printed(rt.alloc(), b"")?;
+    assert!(rt; sink.bytes().is_empty());
+    Ok(())
+}
+
+#[test]
 fn judges_whole_sums(rt: HostRuntime) -> Result<(), Fail> {
     let alloc = rt.alloc();
     let sink = printed(alloc, b"Plus[170141183460469231731687303715884105727, 1]")?;
