@@ -70,4 +70,3 @@ as_form fo.Brackets = s.Brackets
 as_form (fo.Marked m) = s.Marked (as_mark m)
 as_form (fo.Paired p) = s.Paired (as_pair p)
 as_form (fo.Chained c) = s.Chained (as_chain c)
-

@@ -66,12 +66,7 @@ fn put_text(
 /// Appends the text without parentheses.
 #[cycle(input)]
 #[tactic(auto, using(expr_tree::proofs::Callers::tree_steps, crate::proofs::Shown::shown_steps))]
-fn put_open(
-    alloc: Global,
-    buffer: &mut Text,
-    e: &Expr,
-    names: &Names,
-) -> Result<(), AllocError>
+fn put_open(alloc: Global, buffer: &mut Text, e: &Expr, names: &Names) -> Result<(), AllocError>
     requires { IsKept (length names.now.texts) e.now }
     ensures { OnOk result (buffer.new ≡ buffer.old ++ (shown_by names.now.texts e.now).text) }
 {
@@ -289,4 +284,3 @@ fn put_factor(
         put_text(alloc, buffer, 19, item, names)
     }
 }
-

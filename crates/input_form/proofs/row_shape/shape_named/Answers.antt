@@ -7,14 +7,101 @@ use Rattle.input_form.proofs.row_shape.shape_named.Goals as goal
 pub returns-in_default : goal.returns-in_default
 returns-in_default c =
     let d = c.in_default in
-    let apart : IsNone c.args.name.now shaped =
-        (d.not-List, (d.not-Blank, (d.not-BlankSequence, (d.not-BlankNullSequence, (d.not-Pattern, (d.not-Slot,
-        (d.not-SlotSequence, (d.not-Times, (d.not-Plus, (d.not-Not, (d.not-Function, (d.not-PatternTest, (d.not-Power,
-        (d.not-Condition, (d.not-Rule, (d.not-RuleDelayed, (d.not-ReplaceAll, (d.not-ReplaceRepeated, (d.not-Set,
-        (d.not-SetDelayed, (d.not-Equal, (d.not-Unequal, (d.not-Less, (d.not-LessEqual, (d.not-Greater,
-        (d.not-GreaterEqual, (d.not-SameQ, (d.not-UnsameQ, (d.not-And, (d.not-Or, (d.not-Alternatives,
-        (d.not-CompoundExpression, tt))))))))))))))))))))))))))))))))
-        in
+    let apart : IsNone c.args.name.now shaped = (
+      d.not-List,
+      (
+        d.not-Blank,
+        (
+          d.not-BlankSequence,
+          (
+            d.not-BlankNullSequence,
+            (
+              d.not-Pattern,
+              (
+                d.not-Slot,
+                (
+                  d.not-SlotSequence,
+                  (
+                    d.not-Times,
+                    (
+                      d.not-Plus,
+                      (
+                        d.not-Not,
+                        (
+                          d.not-Function,
+                          (
+                            d.not-PatternTest,
+                            (
+                              d.not-Power,
+                              (
+                                d.not-Condition,
+                                (
+                                  d.not-Rule,
+                                  (
+                                    d.not-RuleDelayed,
+                                    (
+                                      d.not-ReplaceAll,
+                                      (
+                                        d.not-ReplaceRepeated,
+                                        (
+                                          d.not-Set,
+                                          (
+                                            d.not-SetDelayed,
+                                            (
+                                              d.not-Equal,
+                                              (
+                                                d.not-Unequal,
+                                                (
+                                                  d.not-Less,
+                                                  (
+                                                    d.not-LessEqual,
+                                                    (
+                                                      d.not-Greater,
+                                                      (
+                                                        d.not-GreaterEqual,
+                                                        (
+                                                          d.not-SameQ,
+                                                          (
+                                                            d.not-UnsameQ,
+                                                            (
+                                                              d.not-And,
+                                                              (
+                                                                d.not-Or,
+                                                                (
+                                                                  d.not-Alternatives,
+                                                                  (d.not-CompoundExpression, tt),
+                                                                ),
+                                                              ),
+                                                            ),
+                                                          ),
+                                                        ),
+                                                      ),
+                                                    ),
+                                                  ),
+                                                ),
+                                              ),
+                                            ),
+                                          ),
+                                        ),
+                                      ),
+                                    ),
+                                  ),
+                                ),
+                              ),
+                            ),
+                          ),
+                        ),
+                      ),
+                    ),
+                  ),
+                ),
+              ),
+            ),
+          ),
+        ),
+      ),
+    )
+    in
     sym (unshaped c.args.name.now (none c.args.name.now shaped apart))
 
 pub returns-in-List : goal.returns-in-List
