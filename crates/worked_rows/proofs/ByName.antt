@@ -46,4 +46,5 @@ in_cell = record { names = names; shown = λ e. []; mode = Cell; kernel = 0; lim
 -- 1 + x + 2
 rows_are_found_by_their_texts : (eval in_cell empty (make names Builtin.Plus (integer (pos 1) ∷ symbol (record { base = 169; number = 0 }) ∷ integer (pos 2) ∷ [])) []).outcome
     ≡ value (make names Builtin.Plus (integer (pos 3) ∷ symbol (record { base = 169; number = 0 }) ∷ []))
+unfolding eval
 rows_are_found_by_their_texts = refl

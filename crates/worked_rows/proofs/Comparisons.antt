@@ -3,6 +3,7 @@ use Rattle.std.proofs.Common.{◌≡◌, refl, [], ◌∷◌}
 use Rattle.std.specs.Prelude.{codes}
 use Rattle.expr_tree.specs.Tree.{string}
 use Rattle.semantics.specs.Builtin.{Builtin}
+use Rattle.semantics.specs.Eval.{eval}
 use Rattle.worked_rows.specs.Sample.{a', apply, b', cells, equals, f', int, list, n', of, symbol_of_row, value, x', y'}
 
 -- 1 == 1; 1 == 2; x == x; x == y; "a" == "b"; Equal[]
@@ -20,6 +21,7 @@ equality :
     ∷ value (of Builtin.Equal (x' ∷ y' ∷ []))
     ∷ value (symbol_of_row Builtin.False)
     ∷ value (symbol_of_row Builtin.True) ∷ []
+unfolding eval
 equality = refl
 
 -- Unequal[1, 2, 3]; Unequal[1, 2, 1]; Unequal[x, y]; Unequal[x]; Unequal[]
@@ -35,6 +37,7 @@ inequality :
     ∷ value (of Builtin.Unequal (x' ∷ y' ∷ []))
     ∷ value (of Builtin.Unequal (x' ∷ []))
     ∷ value (symbol_of_row Builtin.True) ∷ []
+unfolding eval
 inequality = refl
 
 -- 1 < 2 < 3; 1 < 1; 2 >= 2; Less[1]; Less[x]; 3 > x
@@ -52,6 +55,7 @@ orders_of_integers :
     ∷ value (symbol_of_row Builtin.True)
     ∷ value (of Builtin.Less (x' ∷ []))
     ∷ value (of Builtin.Greater (int 3 ∷ x' ∷ [])) ∷ []
+unfolding eval
 orders_of_integers = refl
 
 -- x === x; x === y; UnsameQ[x, y, x]
@@ -63,6 +67,7 @@ sameness :
     ≡ value (symbol_of_row Builtin.True)
     ∷ value (symbol_of_row Builtin.False)
     ∷ value (symbol_of_row Builtin.False) ∷ []
+unfolding eval
 sameness = refl
 
 -- AtomQ[3]; AtomQ[f[x]]; IntegerQ["a"]; StringQ["a"]; ListQ[{}]; TrueQ[x]; OrderedQ[{a, b}]
@@ -82,6 +87,7 @@ tests_of_kinds :
     ∷ value (symbol_of_row Builtin.True)
     ∷ value (symbol_of_row Builtin.False)
     ∷ value (symbol_of_row Builtin.False) ∷ []
+unfolding eval
 tests_of_kinds = refl
 
 -- And[1 == 1, x]; And[x, 1 == 2, n = 1]; n; Or[x, y]; Or[x, 1 == 1]; Not[1 == 1]; And[]
@@ -101,4 +107,5 @@ connectives_evaluate_in_turn :
     ∷ value (symbol_of_row Builtin.True)
     ∷ value (symbol_of_row Builtin.False)
     ∷ value (symbol_of_row Builtin.True) ∷ []
+unfolding eval
 connectives_evaluate_in_turn = refl
