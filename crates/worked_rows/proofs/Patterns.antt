@@ -3,6 +3,7 @@ use Rattle.std.proofs.Common.{◌≡◌, refl, [], ◌∷◌}
 use Rattle.expr_tree.specs.Tree.{call}
 use Rattle.semantics.specs.Builtin.{Builtin}
 use Rattle.semantics.specs.Eval.{eval}
+use Rattle.semantics.specs.Table.{row, worked}
 use Rattle.worked_rows.specs.Sample.{a', apply, b', blank, blanks, cells, condition, equals, f', g', h', int, list, n', null, numbers, o', of, plus, replacing, rule, some_blanks, symbol_of_row, value, x', y'}
 
 -- {1, 2, 3} /. {x__, y__} -> {{x}, {y}}
@@ -10,7 +11,7 @@ a_sequence_takes_the_shortest_run_first :
     cells (
     replacing (numbers (1 ∷ 2 ∷ 3 ∷ [])) (rule (list (blanks x' ∷ blanks y' ∷ [])) (list (list (x' ∷ []) ∷ list (y' ∷ []) ∷ []))) ∷ [])
     ≡ value (list (numbers (1 ∷ []) ∷ numbers (2 ∷ 3 ∷ []) ∷ [])) ∷ []
-unfolding eval
+unfolding eval row worked
 a_sequence_takes_the_shortest_run_first = refl
 
 -- MatchQ[f[1, 2], f[x_, y_]]; MatchQ[f[1, 2], f[x_, x_]]; MatchQ[f[1, 1], f[x_, x_]]
@@ -22,7 +23,7 @@ equal_names_match_identical_expressions :
     ≡ value (symbol_of_row Builtin.True)
     ∷ value (symbol_of_row Builtin.False)
     ∷ value (symbol_of_row Builtin.True) ∷ []
-unfolding eval
+unfolding eval row worked
 equal_names_match_identical_expressions = refl
 
 -- SetAttributes[g, Flat]; g[1, 2, 3] /. g[x_, y_] -> {x, y}
@@ -32,7 +33,7 @@ a_blank_under_flat_takes_a_run :
     ∷ replacing (call g' (int 1 ∷ int 2 ∷ int 3 ∷ [])) (rule (call g' (blank x' ∷ blank y' ∷ [])) (list (x' ∷ y' ∷ []))) ∷ [])
     ≡ null
     ∷ value (list (int 1 ∷ call g' (int 2 ∷ int 3 ∷ []) ∷ [])) ∷ []
-unfolding eval
+unfolding eval row worked
 a_blank_under_flat_takes_a_run = refl
 
 -- SetAttributes[o, Orderless]; o[b, a] /. o[x_, y_] -> {x, y}
@@ -42,7 +43,7 @@ orderless_patterns_choose_by_position :
     ∷ replacing (call o' (b' ∷ a' ∷ [])) (rule (call o' (blank x' ∷ blank y' ∷ [])) (list (x' ∷ y' ∷ []))) ∷ [])
     ≡ null
     ∷ value (list (a' ∷ b' ∷ [])) ∷ []
-unfolding eval
+unfolding eval row worked
 orderless_patterns_choose_by_position = refl
 
 -- MatchQ[f[1], _f]; MatchQ[3, _f]; MatchQ[{1, 2}, {__f}]; MatchQ[{}, {___}]
@@ -56,7 +57,7 @@ a_typed_blank_asks_for_a_head :
     ∷ value (symbol_of_row Builtin.False)
     ∷ value (symbol_of_row Builtin.False)
     ∷ value (symbol_of_row Builtin.True) ∷ []
-unfolding eval
+unfolding eval row worked
 a_typed_blank_asks_for_a_head = refl
 
 -- {1, 2} /. {x_, y_} | {y_, x_} -> f[x, y]; MatchQ[b, a | b]
@@ -66,7 +67,7 @@ alternatives_go_from_left_to_right :
     ∷ of Builtin.MatchQ (b' ∷ of Builtin.Alternatives (a' ∷ b' ∷ []) ∷ []) ∷ [])
     ≡ value (call f' (int 1 ∷ int 2 ∷ []))
     ∷ value (symbol_of_row Builtin.True) ∷ []
-unfolding eval
+unfolding eval row worked
 alternatives_go_from_left_to_right = refl
 
 -- Cases[{1, a, 2}, _?IntegerQ]; Cases[{1, a, 2}, x_ /; x > 1]
@@ -76,7 +77,7 @@ tests_and_conditions_guard :
     ∷ of Builtin.Cases (list (int 1 ∷ a' ∷ int 2 ∷ []) ∷ condition (blank x') (of Builtin.Greater (x' ∷ int 1 ∷ [])) ∷ []) ∷ [])
     ≡ value (numbers (1 ∷ 2 ∷ []))
     ∷ value (numbers (2 ∷ [])) ∷ []
-unfolding eval
+unfolding eval row worked
 tests_and_conditions_guard = refl
 
 -- n = 0; MatchQ[5, x_ /; (n = n + 1; x > 3)]; n
@@ -88,7 +89,7 @@ a_guard_of_a_question_is_tried_once :
     ≡ value (int 0)
     ∷ value (symbol_of_row Builtin.True)
     ∷ value (int 1) ∷ []
-unfolding eval
+unfolding eval row worked
 a_guard_of_a_question_is_tried_once = refl
 
 -- MatchQ[x_, Verbatim[x_]]; MatchQ[3, Verbatim[x_]]; MatchQ[3, HoldPattern[x_]]
@@ -100,7 +101,7 @@ verbatim_and_hold_pattern :
     ≡ value (symbol_of_row Builtin.True)
     ∷ value (symbol_of_row Builtin.False)
     ∷ value (symbol_of_row Builtin.True) ∷ []
-unfolding eval
+unfolding eval row worked
 verbatim_and_hold_pattern = refl
 
 -- MatchQ[Pattern[1, _], Pattern[1, _]]; MatchQ[3, Pattern[1, _]]
@@ -110,7 +111,7 @@ another_shape_is_ordinary :
     ∷ of Builtin.MatchQ (int 3 ∷ of Builtin.Pattern (int 1 ∷ of Builtin.Blank [] ∷ []) ∷ []) ∷ [])
     ≡ value (symbol_of_row Builtin.True)
     ∷ value (symbol_of_row Builtin.False) ∷ []
-unfolding eval
+unfolding eval row worked
 another_shape_is_ordinary = refl
 
 -- f[a] /. f[x_, y___] -> g[y, x]
@@ -118,7 +119,7 @@ a_run_of_none_is_an_empty_sequence :
     cells (
     replacing (apply f' a') (rule (call f' (blank x' ∷ some_blanks y' ∷ [])) (call g' (y' ∷ x' ∷ []))) ∷ [])
     ≡ value (apply g' a') ∷ []
-unfolding eval
+unfolding eval row worked
 a_run_of_none_is_an_empty_sequence = refl
 
 -- Cases[h[1, a, 2], _?IntegerQ]; Cases[{f[1], a}, f[x_] -> x]
@@ -128,7 +129,7 @@ the_head_of_the_list_is_kept :
     ∷ of Builtin.Cases (list (apply f' (int 1) ∷ a' ∷ []) ∷ rule (apply f' (blank x')) x' ∷ []) ∷ [])
     ≡ value (call h' (int 1 ∷ int 2 ∷ []))
     ∷ value (numbers (1 ∷ [])) ∷ []
-unfolding eval
+unfolding eval row worked
 the_head_of_the_list_is_kept = refl
 
 -- Count[{1, a, 2}, _]; MemberQ[{a, b}, b]; FreeQ[f[g[x]], g]; FreeQ[f[x], y]
@@ -142,7 +143,7 @@ counting_and_searching :
     ∷ value (symbol_of_row Builtin.True)
     ∷ value (symbol_of_row Builtin.False)
     ∷ value (symbol_of_row Builtin.True) ∷ []
-unfolding eval
+unfolding eval row worked
 counting_and_searching = refl
 
 -- f[f[x]] /. f[y_] -> g[y]; f[x] //. {f[y_] -> g[y], g[x] -> 3}; {a, b} /. {}
@@ -154,12 +155,12 @@ what_was_replaced_is_not_entered :
     ≡ value (apply g' (apply f' x'))
     ∷ value (int 3)
     ∷ value (list (a' ∷ b' ∷ [])) ∷ []
-unfolding eval
+unfolding eval row worked
 what_was_replaced_is_not_entered = refl
 
 -- f[f] /. f -> g
 the_head_is_replaced_before_the_elements : cells (replacing (apply f' f') (rule f' g') ∷ []) ≡ value (apply g' g') ∷ []
-unfolding eval
+unfolding eval row worked
 the_head_is_replaced_before_the_elements = refl
 
 -- {1, 2} /. x_?IntegerQ :> x + 1
@@ -167,5 +168,5 @@ delayed_rules_keep_their_right_side :
     cells (
     replacing (numbers (1 ∷ 2 ∷ [])) (of Builtin.RuleDelayed (of Builtin.PatternTest (blank x' ∷ symbol_of_row Builtin.IntegerQ ∷ []) ∷ plus x' (int 1) ∷ [])) ∷ [])
     ≡ value (numbers (2 ∷ 3 ∷ [])) ∷ []
-unfolding eval
+unfolding eval row worked
 delayed_rules_keep_their_right_side = refl
