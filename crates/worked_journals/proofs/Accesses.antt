@@ -5,6 +5,7 @@ use Rattle.expr_tree.specs.Tree.{Tree, string, call}
 use Rattle.semantics.specs.Builtin.{Builtin}
 use Rattle.semantics.specs.Names.{name}
 use Rattle.semantics.specs.Table.{row, worked}
+use Rattle.semantics.specs.Match.{matches}
 use Rattle.journal.specs.Entry.{Entry, Event, Wait}
 use Rattle.journal.specs.Run.{Reading, Out, legal, transcript}
 use Rattle.worked_journals.proofs.Script.{setup, names, int, list, of, equals, by, reads, n', f', x', increment, share, submit, wait_all, read, write}
@@ -95,9 +96,9 @@ shared_journal =
     ∷ by 0 Event.Close ∷ []
 
 shared_legal : legal (setup 1 []) shared shared_journal ≡ true
-unfolding shared shared_journal row worked
+unfolding shared shared_journal row worked matches
 shared_legal = refl
 
 shared_lines : transcript (setup 1 []) false shared shared_journal 4 ≡ Some (Out 3 (int 9) ∷ Out 4 (list (int 7 ∷ int 7 ∷ int 7 ∷ [])) ∷ [])
-unfolding shared shared_journal row worked
+unfolding shared shared_journal row worked matches
 shared_lines = refl

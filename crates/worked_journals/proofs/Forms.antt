@@ -5,6 +5,7 @@ use Rattle.expr_tree.specs.Tree.{Tree, call}
 use Rattle.semantics.specs.Builtin.{Builtin}
 use Rattle.semantics.specs.Names.{name}
 use Rattle.semantics.specs.Table.{row, worked}
+use Rattle.semantics.specs.Match.{matches}
 use Rattle.journal.specs.Entry.{Entry, Event, Wait}
 use Rattle.journal.specs.Run.{Reading, Out, legal, transcript}
 use Rattle.worked_journals.proofs.Script.{setup, names, sym, int, list, of, equals, by, reads, f', x', object, failed', submit, wait_all, method, alone_at}
@@ -32,11 +33,11 @@ squares_other =
     squares_begun ++ by 2 (Event.Take 1) ∷ by 1 (Event.Take 2) ∷ by 1 (Event.Deliver 2 (list (int 9 ∷ []))) ∷ by 2 (Event.Deliver 1 (list (int 1 ∷ int 4 ∷ []))) ∷ squares_ended
 
 squares_legal : legal (setup 2 []) squares squares_in_order ≡ true
-unfolding squares squares_begun squares_ended squares_in_order row worked
+unfolding squares squares_begun squares_ended squares_in_order row worked matches
 squares_legal = refl
 
 squares_legal_too : legal (setup 2 []) squares squares_other ≡ true
-unfolding squares squares_begun squares_ended squares_other row worked
+unfolding squares squares_begun squares_ended squares_other row worked matches
 squares_legal_too = refl
 
 -- place order, whatever the interleaving

@@ -7,6 +7,7 @@ use Rattle.semantics.specs.Program.{Mode}
 use Rattle.semantics.specs.Play.{End}
 use Rattle.semantics.specs.Eval.{Outcome, eval}
 use Rattle.semantics.specs.Table.{row, worked}
+use Rattle.semantics.specs.Match.{matches}
 use Rattle.journal.specs.Core.{in_mode}
 use Rattle.journal.specs.Quiet.{IsQuiet, by_itself, alone}
 use Rattle.worked_journals.proofs.Script.{setup, int, of, f', x'}
@@ -32,13 +33,13 @@ abbrev known : Definitions
 known = (eval (in_mode (setup 0 []) Mode.Cell 0) empty square []).definitions
 
 quiet_value : (by_itself (setup 0 []) known (at (int 3))).outcome ≡ Outcome.Ended (End.Value (int 9))
-unfolding eval row worked
+unfolding eval row worked matches
 quiet_value = refl
 
 quiet_unused : (by_itself (setup 0 []) known (at (int 3))).used ≡ false
-unfolding eval row worked
+unfolding eval row worked matches
 quiet_unused = refl
 
 alone_squares : alone (setup 0 []) known (at (int 1) ∷ at (int 2) ∷ []) ≡ int 1 ∷ int 4 ∷ []
-unfolding eval row worked
+unfolding eval row worked matches
 alone_squares = refl

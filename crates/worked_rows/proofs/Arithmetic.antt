@@ -4,6 +4,7 @@ use Rattle.expr_tree.specs.declared.limits.Stop.{Stop}
 use Rattle.semantics.specs.Builtin.{Builtin}
 use Rattle.semantics.specs.Eval.{eval}
 use Rattle.semantics.specs.Table.{row, worked}
+use Rattle.semantics.specs.Match.{matches}
 use Rattle.worked_rows.specs.Sample.{a', apply, b', blank, cells, delayed, equals, fac', int, list, minus, n', null, numbers, of, plus, stopped, symbol_of_row, times, value, x', y'}
 
 -- x + 2 x - 3 x; x x^-1; x + y + 2 x
@@ -185,5 +186,5 @@ a_recursive_factorial :
     ∷ value (int 3628800)
     ∷ value (int 8683317618811886495518194401280000000)
     ∷ stopped Stop.Range ∷ []
-unfolding eval row worked
+unfolding eval row worked matches
 a_recursive_factorial = refl

@@ -3,6 +3,7 @@ use Rattle.std.proofs.Common.{◌≡◌, refl, [], ◌∷◌}
 use Rattle.semantics.specs.Builtin.{Builtin}
 use Rattle.semantics.specs.Eval.{eval}
 use Rattle.semantics.specs.Table.{row, worked}
+use Rattle.semantics.specs.Match.{matches}
 use Rattle.worked_rows.specs.Sample.{a', apply, area', blank, cells, condition, delayed, equals, f', failed, g', h', int, l', list, m', n', null, numbers, of, p', plus, sq', symbol_of_row, value, x', y'}
 
 -- a[x_] := 1; a[0] = 2; a[0]; a[5]
@@ -16,7 +17,7 @@ the_more_special_rule_comes_first :
     ∷ value (int 2)
     ∷ value (int 2)
     ∷ value (int 1) ∷ []
-unfolding eval row worked
+unfolding eval row worked matches
 the_more_special_rule_comes_first = refl
 
 -- f[x_] := 1; f[x_g] := 2; f[x_ /; x > 5] := 3; f[0]; f[g[0]]; f[9]
@@ -34,7 +35,7 @@ typed_blanks_and_conditions_come_before_plain_ones :
     ∷ value (int 1)
     ∷ value (int 2)
     ∷ value (int 3) ∷ []
-unfolding eval row worked
+unfolding eval row worked matches
 typed_blanks_and_conditions_come_before_plain_ones = refl
 
 -- f[x_] := 1; f[x_] := 2; f[0]
@@ -46,7 +47,7 @@ an_identical_left_side_is_replaced :
     ≡ null
     ∷ null
     ∷ value (int 2) ∷ []
-unfolding eval row worked
+unfolding eval row worked matches
 an_identical_left_side_is_replaced = refl
 
 -- f[x_] := 1 /; x > 5; f[3]; f[9]
@@ -58,7 +59,7 @@ a_right_condition_guards :
     ≡ null
     ∷ value (apply f' (int 3))
     ∷ value (int 1) ∷ []
-unfolding eval row worked
+unfolding eval row worked matches
 a_right_condition_guards = refl
 
 -- p[1] = True; f[x_] := 1 /; p[x]; f[1]; f[2]
@@ -72,7 +73,7 @@ a_guard_may_have_rules_of_its_own :
     ∷ null
     ∷ value (int 1)
     ∷ value (apply f' (int 2)) ∷ []
-unfolding eval row worked
+unfolding eval row worked matches
 a_guard_may_have_rules_of_its_own = refl
 
 -- f[x_] /; x > 5 := 1; f[9]; Unset of the same left side; f[9]
@@ -86,7 +87,7 @@ a_left_condition_belongs_to_the_inner_symbol :
     ∷ value (int 1)
     ∷ null
     ∷ value (apply f' (int 9)) ∷ []
-unfolding eval row worked
+unfolding eval row worked matches
 a_left_condition_belongs_to_the_inner_symbol = refl
 
 -- area[sq] ^= 4; area[sq]
@@ -96,7 +97,7 @@ an_up_value_belongs_to_the_element :
     ∷ apply area' sq' ∷ [])
     ≡ value (int 4)
     ∷ value (int 4) ∷ []
-unfolding eval row
+unfolding eval row matches
 an_up_value_belongs_to_the_element = refl
 
 -- True = 3; f[x][y] = 1; x_ = 2; f[x_sq] ^:= 1; x /: f[y] = 2; 3 = 4; x /: x = 3
@@ -243,5 +244,5 @@ a_tagged_assignment_evaluates_its_right_side :
     ∷ value (int 2)
     ∷ null
     ∷ value (int 2) ∷ []
-unfolding eval row worked
+unfolding eval row worked matches
 a_tagged_assignment_evaluates_its_right_side = refl

@@ -7,6 +7,7 @@ use Rattle.semantics.specs.Builtin.{Builtin}
 use Rattle.semantics.specs.Definitions.{empty}
 use Rattle.semantics.specs.Eval.{eval}
 use Rattle.semantics.specs.Table.{row, worked}
+use Rattle.semantics.specs.Match.{matches}
 use Rattle.worked_rows.specs.Sample.{apply, blank, cells, cells_in, condition, delayed, f', h', in_cell, int, null, numbers, of, plus, r', replacing, rule, stopped, symbol_of_row, usual, value, x'}
 
 -- f[f[..[e]..]], so many times
@@ -28,7 +29,7 @@ passes_and_nested_evaluations_end :
     ∷ delayed (apply r' (blank x')) (plus (int 1) (apply r' x'))
     ∷ apply r' (int 0) ∷ [])
     ≡ null ∷ stopped Stop.Iteration ∷ null ∷ stopped Stop.Recursion ∷ []
-unfolding few eval row worked
+unfolding few eval row worked matches
 passes_and_nested_evaluations_end = refl
 
 -- 11 nested f[..] round x are given back where 12 evaluations may be nested, 12 are not
@@ -61,12 +62,12 @@ nested_turns_are_steps = refl
 -- a guarded binding is one step, and each guard's passes are steps: f[1] /. f[x_] /; 0 < x -> 2
 a_guarded_binding_is_a_step :
     (eval (in_cell usual) empty (replacing (apply f' (int 1)) (rule (condition (apply f' (blank x')) (of Builtin.Less (int 0 ∷ x' ∷ []))) (int 2))) []).steps ≡ 3
-unfolding eval row worked
+unfolding eval row worked matches
 a_guarded_binding_is_a_step = refl
 
 -- h[x_] := h[x]; h[0]: the rule gives the expression itself, which is no step
 no_step_without_a_change : cells_in (in_steps 1) (delayed (apply h' (blank x')) (apply h' x') ∷ apply h' (int 0) ∷ []) ≡ null ∷ value (apply h' (int 0)) ∷ []
-unfolding in_steps eval row worked
+unfolding in_steps eval row worked matches
 no_step_without_a_change = refl
 
 -- with at most 60 nodes: Range[59]; Range[60]; Length[Range[58]]; Length[Range[59]], whose assembled expression has 61 nodes

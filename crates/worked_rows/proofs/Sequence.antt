@@ -4,6 +4,7 @@ use Rattle.expr_tree.specs.Tree.{call}
 use Rattle.semantics.specs.Builtin.{Builtin}
 use Rattle.semantics.specs.Eval.{eval}
 use Rattle.semantics.specs.Table.{row, worked}
+use Rattle.semantics.specs.Match.{matches}
 use Rattle.worked_rows.specs.Sample.{a', apply, b', blank, c', cells, delayed, equals, f', g', h', int, list, n', null, numbers, of, plus, q', symbol_of_row, value, x'}
 
 -- 1 + 2; x = 3; x + 4
@@ -114,7 +115,7 @@ up_rules_come_before_down_rules :
     ≡ null
     ∷ value (int 2)
     ∷ value (int 2) ∷ []
-unfolding eval row worked
+unfolding eval row worked matches
 up_rules_come_before_down_rules = refl
 
 -- Unprotect[Length]; Length[a] = 7; Length[a]; Length[{a}]
@@ -128,7 +129,7 @@ a_down_rule_comes_before_the_row :
     ∷ value (int 7)
     ∷ value (int 7)
     ∷ value (int 1) ∷ []
-unfolding eval row worked
+unfolding eval row worked matches
 a_down_rule_comes_before_the_row = refl
 
 -- Unprotect[$KernelID]; $KernelID = 5; $KernelID
@@ -157,7 +158,7 @@ an_identical_result_ends_without_a_step :
     ∷ apply h' (int 0) ∷ [])
     ≡ null
     ∷ value (apply h' (int 0)) ∷ []
-unfolding eval row worked
+unfolding eval row worked matches
 an_identical_result_ends_without_a_step = refl
 
 -- Head[3]; Head[f[x]]; OrderedQ[5]

@@ -4,6 +4,7 @@ use Rattle.expr_tree.specs.Tree.{call}
 use Rattle.semantics.specs.Builtin.{Builtin}
 use Rattle.semantics.specs.Eval.{eval}
 use Rattle.semantics.specs.Table.{row, worked}
+use Rattle.semantics.specs.Match.{matches}
 use Rattle.worked_rows.specs.Sample.{a', apply, b', blank, c', cells, delayed, equals, f', g', h', i', int, j', list, minus, n', null, numbers, of, plus, symbol_of_row, times, value, x'}
 
 -- (n = 1; n = n + 1; n); CompoundExpression[]
@@ -157,7 +158,7 @@ a_function_that_remembers :
     ∷ value (int 1)
     ∷ null
     ∷ value (int 832040) ∷ []
-unfolding eval row worked
+unfolding eval row worked matches
 a_function_that_remembers = refl
 
 -- Table[Mod[i i, 7], {i, 10}]
@@ -177,5 +178,5 @@ steps_of_a_halving_walk :
     ≡ value (int 0)
     ∷ null
     ∷ value (numbers (19 ∷ 4 ∷ 7 ∷ 6 ∷ [])) ∷ []
-unfolding eval row worked
+unfolding eval row worked matches
 steps_of_a_halving_walk = refl
