@@ -214,6 +214,7 @@ module _ (S : Sym → Sym → Type 0) where
 
     -- the list of bindings on related patterns and expressions: related bindings and guards, in the same order
     pub matches-like : (A B : Sym → Matching) → SameHow A B → {p q e f : Tree} → Like S p q → Like S e f → All LikeFound (matches names A p e) (matches names B q f)
+    unfolding matches
     matches-like A B alike p e = matcher-like A B alike p _ _ (all_cons e all_nil) nothing_found nothing_found (record { binding = all_nil; guards = all_nil })
 
     asked-like : {h g : Tree} → Like S h g → All S (asked names h) (asked names g)

@@ -39,6 +39,7 @@ not_wrong (Calls c st k) e = cc
 module _ {S : Type 0} {step : Step S} (set : Setting) (d : Definitions) (e : Tree) {s z : S} where
   -- the list, and where the evaluation over it stands
   listed_to : (u : Play) → Leads step s (whole set d e) u z → (O : List Event) × Explain step (eval set d e) s [] O z × (eval set d e O ≡ over u [])
+  unfolding eval
   listed_to u l =
       let x = elements (eval set d e) [] (λ X. refl) l in
       (x.0, x.1, ap (eval set d e) (sym (append-nil x.0)) ∙ x.2 [])

@@ -9,7 +9,7 @@ use Rattle.expr_tree.specs.declared.limits.Stop.{Stop}
 use Rattle.semantics.specs.Pass.{pass}
 use Rattle.expr_tree.specs.declared.limits.Limits.{Limits}
 use Rattle.semantics.specs.Play.{Setting, State, End, Value, Stopped, Quit, Closed, Starved, Reply, Replied, Halted, Shut, Lacking, Play, Over, Calls, Evaluator, ending, on_value, first_cause, too_large, with_step, calling, by_reply, unless_stopped, stepped, settled, if_number_left, leaving, all_among, by_locks, sectioned, opened, run, changed, judged, passes, eval_at, begun}
-use Rattle.semantics.specs.Eval.{Event, if_matched, over, same_call}
+use Rattle.semantics.specs.Eval.{Event, if_matched, over, eval, same_call}
 use Rattle.language_laws.specs.Laws.{Looser, LooserKeeps, is_final, is_finished, with_limits}
 
 zero-not-suc : {n : ℕ} → zero ≡ suc n → ⊥
@@ -207,4 +207,5 @@ kept_over (needs {c = c} {s = s} {k = k} {l = l} f) (a ∷ rest) h = go (same_ca
 kept_over (unfinished u) events h = absurd (unfinished_over u events h)
 
 pub looser_keeps : LooserKeeps
+unfolding eval
 looser_keeps set m cons d e events = kept_over (eval_at-keeps set m cons set.limits.recursion m.recursion cons.recursion e (begun d)) events

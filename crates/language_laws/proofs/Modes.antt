@@ -8,7 +8,7 @@ use Rattle.semantics.specs.Program.{Prog, Done, Stops, Quits, Ask, Within, Secti
 use Rattle.expr_tree.specs.declared.limits.Stop.{Stop}
 use Rattle.semantics.specs.Pass.{pass}
 use Rattle.semantics.specs.Play.{Setting, State, End, Value, Stopped, Quit, Closed, Starved, Reply, Replied, Halted, Shut, Lacking, Play, Over, Calls, Evaluator, ending, on_value, calling, by_reply, unless_stopped, stepped, settled, if_number_left, leaving, all_among, by_locks, sectioned, opened, run, changed, judged, passes, eval_at, begun}
-use Rattle.semantics.specs.Eval.{Event, if_matched, over, same_call}
+use Rattle.semantics.specs.Eval.{Event, if_matched, over, same_call, eval}
 use Rattle.language_laws.specs.Laws.{ModeIndependent, in_mode}
 
 -- `used` is true at every call and at every end
@@ -245,4 +245,5 @@ same_over (needs {c = c} {s = s} {k = k} {l = l} f) (a ∷ rest) h = go (same_ca
 same_over (used u) events h = absurd (true≢false (sym (used_over u events) ∙ h))
 
 pub mode_independent : ModeIndependent
+unfolding eval
 mode_independent set mode kernel d e events = same_over (eval_at-alike set mode kernel set.limits.recursion e (begun d)) events

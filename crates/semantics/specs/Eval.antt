@@ -60,5 +60,5 @@ over (Over o s) events = reached (Ended o) s events
 over (Calls c s k) [] = reached (Needs c) s []
 over (Calls c s k) (a ∷ rest) = if_matched (same_call a.call c) s a rest (over (k a.reply a.after) rest)
 
-abbrev pub eval : Setting → Definitions → Tree → List Event → Evaluation
+unfoldable pub eval : Setting → Definitions → Tree → List Event → Evaluation
 eval set d e events = over (whole set d e) events

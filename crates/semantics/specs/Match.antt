@@ -242,7 +242,7 @@ abbrev mutual
   matchers names A nil = []
   matchers names A (cons p ps) = record { tree = p; matcher = matcher names A p } ∷ matchers names A ps
 
-abbrev pub matches : Names → (Sym → Matching) → Tree → Tree → List Found
+unfoldable pub matches : Names → (Sym → Matching) → Tree → Tree → List Found
 matches names A p e = matcher names A p (e ∷ []) nothing_found
 
 -- the symbols that A is asked for: the heads of normal patterns that are no construct

@@ -24,7 +24,7 @@ ordered_q names (normal h es ∷ []) = Gives (truth names (Lists.in_order (eleme
 ordered_q names _ = Stays
 
 -- the rows that are functions of the items alone
-abbrev pub worked : Names → Builtin → List Tree → Worked
+unfoldable pub worked : Names → Builtin → List Tree → Worked
 worked names Builtin.Plus = plus names
 worked names Builtin.Times = product names
 worked names Builtin.Power = power names
@@ -94,7 +94,7 @@ as_program stay Stays = stay
 as_program stay (Gives e) = Done e
 as_program stay TooWide = Stops Stop.Range
 
-abbrev pub row : Names → Builtin → Prog → List Tree → Prog
+unfoldable pub row : Names → Builtin → Prog → List Tree → Prog
 row names Builtin.CompoundExpression stay = in_turn stay
 row names Builtin.If stay = conditional names stay
 row names Builtin.Which stay = which names stay

@@ -4,6 +4,8 @@ use Rattle.std.specs.Prelude.{codes}
 use Rattle.expr_tree.specs.Tree.{Tree, string, call}
 use Rattle.semantics.specs.Builtin.{Builtin}
 use Rattle.semantics.specs.Names.{name}
+use Rattle.semantics.specs.Table.{row, worked}
+use Rattle.semantics.specs.Match.{matches}
 use Rattle.journal.specs.Entry.{Entry, Event, Wait}
 use Rattle.journal.specs.Run.{Reading, Out, legal, transcript}
 use Rattle.worked_journals.proofs.Script.{setup, names, int, list, of, equals, by, reads, n', f', x', increment, share, submit, wait_all, read, write}
@@ -28,11 +30,11 @@ two_items_journal =
     ∷ []
 
 two_items_legal : legal (setup 0 []) two_items two_items_journal ≡ true
-unfolding two_items two_items_journal
+unfolding two_items two_items_journal row worked
 two_items_legal = refl
 
 two_items_lines : transcript (setup 0 []) false two_items two_items_journal 4 ≡ Some (Out 1 (int 0) ∷ Out 3 (list (int 0 ∷ int 1 ∷ [])) ∷ Out 4 (int 2) ∷ [])
-unfolding two_items two_items_journal
+unfolding two_items two_items_journal row worked
 two_items_lines = refl
 
 -- x = 0; SetSharedVariable[x]; ParallelDo[x = x + 1, {2}, Method -> "FinestGrained"]; x
@@ -54,20 +56,20 @@ updated_with between =
 lost_update : transcript (setup 2 []) false updated
     (updated_with (read 1 0 ∷ read 2 0 ∷ write 1 1 ∷ write 2 1 ∷ by 1 (Event.Deliver 1 (list (int 1 ∷ []))) ∷ by 2 (Event.Deliver 2 (list (int 1 ∷ []))) ∷ [])) 4
     ≡ Some (Out 1 (int 0) ∷ Out 4 (int 1) ∷ [])
-unfolding updated updated_with
+unfolding updated updated_with row
 lost_update = refl
 
 lost_update_legal : legal (setup 2 []) updated
     (updated_with (read 1 0 ∷ read 2 0 ∷ write 1 1 ∷ write 2 1 ∷ by 1 (Event.Deliver 1 (list (int 1 ∷ []))) ∷ by 2 (Event.Deliver 2 (list (int 1 ∷ []))) ∷ []))
     ≡ true
-unfolding updated updated_with
+unfolding updated updated_with row worked
 lost_update_legal = refl
 
 -- an access that no evaluation makes
 invented : legal (setup 2 []) updated
     (updated_with (read 1 0 ∷ read 1 0 ∷ read 2 0 ∷ write 1 1 ∷ write 2 1 ∷ by 1 (Event.Deliver 1 (list (int 1 ∷ []))) ∷ by 2 (Event.Deliver 2 (list (int 1 ∷ []))) ∷ []))
     ≡ false
-unfolding updated updated_with
+unfolding updated updated_with row worked
 invented = refl
 
 abbrev at : Tree → Tree
@@ -94,9 +96,9 @@ shared_journal =
     ∷ by 0 Event.Close ∷ []
 
 shared_legal : legal (setup 1 []) shared shared_journal ≡ true
-unfolding shared shared_journal
+unfolding shared shared_journal row worked matches
 shared_legal = refl
 
 shared_lines : transcript (setup 1 []) false shared shared_journal 4 ≡ Some (Out 3 (int 9) ∷ Out 4 (list (int 7 ∷ int 7 ∷ int 7 ∷ [])) ∷ [])
-unfolding shared shared_journal
+unfolding shared shared_journal row worked matches
 shared_lines = refl

@@ -2,6 +2,8 @@
 use Rattle.std.proofs.Common.{◌≡◌, refl, true, List, [], ◌∷◌}
 use Rattle.expr_tree.specs.Tree.{Tree, call}
 use Rattle.semantics.specs.Builtin.{Builtin}
+use Rattle.semantics.specs.Table.{row, worked}
+use Rattle.semantics.specs.Match.{matches}
 use Rattle.journal.specs.Entry.{Entry, Event, Wait}
 use Rattle.journal.specs.Run.{Reading, legal}
 use Rattle.worked_journals.proofs.Script.{setup, sym, int, of, equals, by, reads, x', submit, wait_all}
@@ -30,5 +32,5 @@ bundled_journal =
     ∷ by 0 Event.Close ∷ []
 
 bundled_legal : legal (setup 0 []) bundled bundled_journal ≡ true
-unfolding bundled bundled_journal
+unfolding bundled bundled_journal row worked matches
 bundled_legal = refl

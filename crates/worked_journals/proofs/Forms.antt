@@ -4,6 +4,8 @@ use Rattle.std.specs.Prelude.{codes}
 use Rattle.expr_tree.specs.Tree.{Tree, call}
 use Rattle.semantics.specs.Builtin.{Builtin}
 use Rattle.semantics.specs.Names.{name}
+use Rattle.semantics.specs.Table.{row, worked}
+use Rattle.semantics.specs.Match.{matches}
 use Rattle.journal.specs.Entry.{Entry, Event, Wait}
 use Rattle.journal.specs.Run.{Reading, Out, legal, transcript}
 use Rattle.worked_journals.proofs.Script.{setup, names, sym, int, list, of, equals, by, reads, f', x', object, failed', submit, wait_all, method, alone_at}
@@ -31,20 +33,20 @@ squares_other =
     squares_begun ++ by 2 (Event.Take 1) ∷ by 1 (Event.Take 2) ∷ by 1 (Event.Deliver 2 (list (int 9 ∷ []))) ∷ by 2 (Event.Deliver 1 (list (int 1 ∷ int 4 ∷ []))) ∷ squares_ended
 
 squares_legal : legal (setup 2 []) squares squares_in_order ≡ true
-unfolding squares squares_begun squares_ended squares_in_order
+unfolding squares squares_begun squares_ended squares_in_order row worked matches
 squares_legal = refl
 
 squares_legal_too : legal (setup 2 []) squares squares_other ≡ true
-unfolding squares squares_begun squares_ended squares_other
+unfolding squares squares_begun squares_ended squares_other row worked matches
 squares_legal_too = refl
 
 -- place order, whatever the interleaving
 squares_lines : transcript (setup 2 []) false squares squares_in_order 2 ≡ Some (Out 2 (list (int 1 ∷ int 4 ∷ int 9 ∷ [])) ∷ [])
-unfolding squares squares_begun squares_ended squares_in_order
+unfolding squares squares_begun squares_ended squares_in_order row worked
 squares_lines = refl
 
 squares_lines_too : transcript (setup 2 []) false squares squares_other 2 ≡ Some (Out 2 (list (int 1 ∷ int 4 ∷ int 9 ∷ [])) ∷ [])
-unfolding squares squares_begun squares_ended squares_other
+unfolding squares squares_begun squares_ended squares_other row worked
 squares_lines_too = refl
 
 -- ParallelTry[If[# > 2, #, $Failed] &, {1, 2, 3}]: the third is delivered first, and the others are dropped
@@ -63,11 +65,11 @@ tried_journal =
     ∷ by 0 Event.Resume ∷ by 0 Event.Close ∷ []
 
 tried_legal : legal (setup 2 []) tried tried_journal ≡ true
-unfolding tried tried_journal
+unfolding tried tried_journal row worked
 tried_legal = refl
 
 tried_lines : transcript (setup 2 []) false tried tried_journal 1 ≡ Some (Out 1 (int 3) ∷ [])
-unfolding tried tried_journal
+unfolding tried tried_journal row worked
 tried_lines = refl
 
 -- w = {ParallelSubmit[1 + 1], ParallelSubmit[2 + 2]}; WaitNext[w]; WaitAll[w]
@@ -88,13 +90,13 @@ next_journal =
     ∷ by 0 Event.Close ∷ []
 
 next_legal : legal (setup 0 []) next next_journal ≡ true
-unfolding next next_journal
+unfolding next next_journal row worked
 next_legal = refl
 
 next_lines :
     transcript (setup 0 []) false next next_journal 3
     ≡ Some (Out 1 (list (object 1 ∷ object 2 ∷ [])) ∷ Out 2 (list (int 2 ∷ object 1 ∷ list (object 2 ∷ []) ∷ [])) ∷ Out 3 (list (int 2 ∷ int 4 ∷ [])) ∷ [])
-unfolding next next_journal
+unfolding next next_journal row worked
 next_lines = refl
 
 -- ParallelCombine[Length, {a, b, c, d, e}, List] with two kernels; ParallelEvaluate[$KernelID] with three
@@ -106,7 +108,7 @@ combined_lines :
     by 0 (Event.Submit 1) ∷ by 0 (Event.Submit 2) ∷ by 0 (Event.Yield (Wait.All (1 ∷ 2 ∷ [])))
     ∷ by 2 (Event.Take 1) ∷ by 2 (Event.Deliver 1 (int 3)) ∷ by 2 (Event.Take 2) ∷ by 2 (Event.Deliver 2 (int 2)) ∷ by 0 Event.Resume ∷ by 0 Event.Close ∷ []) 1
     ≡ Some (Out 1 (list (int 3 ∷ int 2 ∷ [])) ∷ [])
-unfolding combined
+unfolding combined row worked
 combined_lines = refl
 
 -- ParallelSum[i j, {i, 2}, {j, 2}]; ParallelTable[i + j, {i, 2}, {j, 2}]; ParallelSum[i, {i, 4}]
@@ -130,7 +132,7 @@ loops_lines :
     ++ alone_at 2 (list (list (int 2 ∷ int 3 ∷ []) ∷ list (int 3 ∷ int 4 ∷ []) ∷ []))
     ++ alone_at 3 (list (int 1 ∷ int 2 ∷ int 3 ∷ int 4 ∷ [])) ++ by 0 Event.Close ∷ []) 3
     ≡ Some (Out 1 (int 9) ∷ Out 2 (list (list (int 2 ∷ int 3 ∷ []) ∷ list (int 3 ∷ int 4 ∷ []) ∷ [])) ∷ Out 3 (int 10) ∷ [])
-unfolding loops
+unfolding loops row worked
 loops_lines = refl
 
 -- ParallelMap[f, h[1, 2], Method -> "FinestGrained"]; ParallelMap[f, 5]; ParallelMap[f, {1}, Method -> "Other"]; ParallelMap[f, {}]
@@ -149,5 +151,5 @@ maps_lines :
     ∷ by 0 (Event.Take 1) ∷ by 0 (Event.Deliver 1 (list (call f' (int 1 ∷ []) ∷ []))) ∷ by 0 (Event.Take 2) ∷ by 0 (Event.Deliver 2 (list (call f' (int 2 ∷ []) ∷ [])))
     ∷ by 0 Event.Resume ∷ by 0 Event.Close ∷ []) 4
     ≡ Some (Out 1 (call (sym 5) (call f' (int 1 ∷ []) ∷ call f' (int 2 ∷ []) ∷ [])) ∷ Out 2 (int 5) ∷ Out 3 failed' ∷ Out 4 (list []) ∷ [])
-unfolding maps
+unfolding maps row worked
 maps_lines = refl

@@ -4,6 +4,7 @@ use Rattle.std.specs.Prelude.{codes}
 use Rattle.expr_tree.specs.Tree.{Tree, string, symbol}
 use Rattle.semantics.specs.Builtin.{Builtin}
 use Rattle.semantics.specs.Names.{name}
+use Rattle.semantics.specs.Table.{row, worked}
 use Rattle.journal.specs.Entry.{Entry, Event, Wait}
 use Rattle.journal.specs.Run.{Reading, Out, legal, transcript}
 use Rattle.worked_journals.proofs.Script.{setup, names, sym, int, list, of, equals, by, reads, x', lock', failed', share, submit, wait_all, section, alone_at, read, write}
@@ -40,16 +41,16 @@ guarded_overlapping =
     ∷ read 2 1 ∷ write 2 2 ∷ by 2 Event.Leave ∷ by 2 (Event.Deliver 2 (list (int 2 ∷ []))) ∷ [])
 
 guarded_legal : legal (setup 2 []) guarded guarded_apart ≡ true
-unfolding guarded guarded_with guarded_apart
+unfolding guarded guarded_with guarded_apart row worked
 guarded_legal = refl
 
 guarded_lines : transcript (setup 2 []) false guarded guarded_apart 4 ≡ Some (Out 1 (int 0) ∷ Out 4 (int 2) ∷ [])
-unfolding guarded guarded_with guarded_apart
+unfolding guarded guarded_with guarded_apart row
 guarded_lines = refl
 
 -- the second Enter comes too early
 guarded_refused : legal (setup 2 []) guarded guarded_overlapping ≡ false
-unfolding guarded guarded_with guarded_overlapping
+unfolding guarded guarded_with guarded_overlapping row
 guarded_refused = refl
 
 -- WaitAll[ParallelSubmit[CriticalSection[{a}, CriticalSection[{b}, 1]]]]; the same with a twice
@@ -68,11 +69,11 @@ inner_journal =
     ∷ by 0 Event.Close ∷ []
 
 inner_lines : transcript (setup 0 []) false inner inner_journal 2 ≡ Some (Out 1 failed' ∷ Out 2 (int 1) ∷ [])
-unfolding inner inner_journal
+unfolding inner inner_journal row worked
 inner_lines = refl
 
 inner_legal : legal (setup 0 []) inner inner_journal ≡ true
-unfolding inner inner_journal
+unfolding inner inner_journal row worked
 inner_legal = refl
 
 -- w = {ParallelSubmit[1], ParallelSubmit[CriticalSection[{lock}, 2]]}; WaitNext[w]; CriticalSection[{lock}, 3]; WaitAll[w]
@@ -96,7 +97,7 @@ lock_awaited_journal =
     ∷ by 0 (Event.Yield (Wait.All (1 ∷ 2 ∷ []))) ∷ by 2 (Event.Deliver 2 (int 2)) ∷ by 0 Event.Resume ∷ by 0 Event.Close ∷ []
 
 lock_awaited_legal : legal (setup 2 []) lock_awaited lock_awaited_journal ≡ true
-unfolding lock_awaited lock_awaited_journal
+unfolding lock_awaited lock_awaited_journal row worked
 lock_awaited_legal = refl
 
 -- WaitAll[ParallelSubmit[ParallelSubmit[1]]]; WaitAll[ParallelSubmit[CriticalSection[{lock}, Quit[]]]]: the stand-in leaves the section
@@ -110,5 +111,5 @@ quitting_inside_journal =
     ∷ by 0 (Event.Deliver 2 (name names Builtin.Aborted)) ∷ by 0 Event.Resume ∷ by 0 Event.Close ∷ []
 
 quitting_inside_legal : legal (setup 0 []) quitting_inside quitting_inside_journal ≡ true
-unfolding quitting_inside quitting_inside_journal
+unfolding quitting_inside quitting_inside_journal row worked
 quitting_inside_legal = refl

@@ -7,6 +7,7 @@ use Rattle.expr_tree.specs.Tree.{Tree, symbol}
 use Rattle.semantics.specs.Builtin.{Builtin}
 use Rattle.semantics.specs.Names.{Names, make, name}
 use Rattle.semantics.specs.Texts.{names_of}
+use Rattle.semantics.specs.Table.{row, worked}
 use Rattle.script_text.specs.Spelling.{Spelling, by_texts, place_in}
 use Rattle.journal.specs.Entry.{Text, Entry, Event, Wait, Loss}
 use Rattle.journal.specs.Core.{Setup, Retry}
@@ -73,18 +74,18 @@ abbrev losing : Setup
 losing = setup_of texts 1 1000000 Retry ((1, 3) ∷ [])
 
 lost_once_legal : legal losing counted lost_once ≡ true
-unfolding counted lost_once
+unfolding counted lost_once row worked
 lost_once_legal = refl
 
 lost_once_transcript : transcript_text texts losing false counted lost_once 4 ≡ Some (codes "Out[1]= 0\nOut[3]= 7\nOut[4]= 2\n")
-unfolding digits counted lost_once
+unfolding digits counted lost_once row worked
 lost_once_transcript = refl
 
 -- with the journal
 lost_once_shown :
     transcript_text texts losing true counted lost_once 4
     ≡ Some (codes "Out[1]= 0\nOut[3]= 7\nOut[4]= 2\n1 0 Submit 1\n2 0 Yield All 1\n3 1 Take 1\n4 1 Access Increment[n] | 0\n5 1 Lose Plan\n6 0 Take 1\n7 0 Access Increment[n] | 1\n8 0 Deliver 1 7\n9 0 Resume\n10 0 Close\n")
-unfolding digits counted lost_once
+unfolding digits counted lost_once row worked
 lost_once_shown = refl
 
 -- WaitAll[{ParallelSubmit[Print[1]], ParallelSubmit[Print[2]]}]
@@ -105,11 +106,11 @@ abbrev by_itself : Setup
 by_itself = setup_of texts 0 1000000 Retry []
 
 printing_legal : legal by_itself printing printing_journal ≡ true
-unfolding digits printing printing_journal
+unfolding digits printing printing_journal row worked
 printing_legal = refl
 
 printing_transcript : transcript_text texts by_itself false printing printing_journal 1 ≡ Some (codes "1\n2\nOut[1]= {Null, Null}\n")
-unfolding digits printing printing_journal
+unfolding digits printing printing_journal row worked
 printing_transcript = refl
 
 -- ---- lines

@@ -2,6 +2,9 @@
 use Rattle.std.proofs.Common.{◌≡◌, refl, [], ◌∷◌}
 use Rattle.expr_tree.specs.declared.limits.Stop.{Stop}
 use Rattle.semantics.specs.Builtin.{Builtin}
+use Rattle.semantics.specs.Eval.{eval}
+use Rattle.semantics.specs.Table.{row, worked}
+use Rattle.semantics.specs.Match.{matches}
 use Rattle.worked_rows.specs.Sample.{a', apply, b', blank, cells, delayed, equals, fac', int, list, minus, n', null, numbers, of, plus, stopped, symbol_of_row, times, value, x', y'}
 
 -- x + 2 x - 3 x; x x^-1; x + y + 2 x
@@ -13,6 +16,7 @@ like_terms_and_factors_join :
     ≡ value (int 0)
     ∷ value (int 1)
     ∷ value (plus y' (times (int 3) x')) ∷ []
+unfolding eval row worked
 like_terms_and_factors_join = refl
 
 -- a - 2 b
@@ -26,6 +30,7 @@ a_difference_is_a_sum :
     ∷ value (plus a' (times (minus 1) b'))
     ∷ value (times (minus 1) x')
     ∷ value (times a' (of Builtin.Power (b' ∷ minus 1 ∷ []))) ∷ []
+unfolding eval row worked
 a_difference_is_a_sum = refl
 
 -- the least integer and one more: the greatest negated, - 1 - 1 + 2
@@ -33,6 +38,7 @@ sums_are_judged_on_the_whole :
     cells (
     of Builtin.Plus (minus 170141183460469231731687303715884105727 ∷ minus 1 ∷ minus 1 ∷ int 2 ∷ []) ∷ [])
     ≡ value (minus 170141183460469231731687303715884105727) ∷ []
+unfolding eval row worked
 sums_are_judged_on_the_whole = refl
 
 -- 170141183460469231731687303715884105727, and one more
@@ -42,6 +48,7 @@ a_sum_out_of_range_stops :
     ∷ plus (int 170141183460469231731687303715884105727) (int 1) ∷ [])
     ≡ value (int 170141183460469231731687303715884105727)
     ∷ stopped Stop.Range ∷ []
+unfolding eval row worked
 a_sum_out_of_range_stops = refl
 
 -- 0 x; 2^100 2^100 0
@@ -51,6 +58,7 @@ a_factor_0_gives_0 :
     ∷ of Builtin.Times (of Builtin.Power (int 2 ∷ int 100 ∷ []) ∷ of Builtin.Power (int 2 ∷ int 100 ∷ []) ∷ int 0 ∷ []) ∷ [])
     ≡ value (int 0)
     ∷ value (int 0) ∷ []
+unfolding eval row worked
 a_factor_0_gives_0 = refl
 
 -- Plus[]; Times[]; GCD[]
@@ -62,6 +70,7 @@ empty_sums_and_products :
     ≡ value (int 0)
     ∷ value (int 1)
     ∷ value (int 0) ∷ []
+unfolding eval row worked
 empty_sums_and_products = refl
 
 -- 2^10; 0^0; 1^x; (-1)^-3; x^1; x^0; (x^2)^3; 2^-1
@@ -83,6 +92,7 @@ powers :
     ∷ value (int 1)
     ∷ value (of Builtin.Power (x' ∷ int 6 ∷ []))
     ∷ value (of Builtin.Power (int 2 ∷ minus 1 ∷ [])) ∷ []
+unfolding eval row worked
 powers = refl
 
 -- 2^126; 2^127; (-2)^127
@@ -94,6 +104,7 @@ a_power_out_of_range_stops :
     ≡ value (int 85070591730234615865843651857942052864)
     ∷ stopped Stop.Range
     ∷ value (minus 170141183460469231731687303715884105728) ∷ []
+unfolding eval row worked
 a_power_out_of_range_stops = refl
 
 -- Quotient[-7, 2]; Mod[-7, 2]; Mod[7, -2]; Mod[7, 0]
@@ -107,6 +118,7 @@ quotients_round_down :
     ∷ value (int 1)
     ∷ value (minus 1)
     ∷ value (of Builtin.Mod (int 7 ∷ int 0 ∷ [])) ∷ []
+unfolding eval row worked
 quotients_round_down = refl
 
 -- Abs[-3]; Sign[-3]; GCD[12, -18]; GCD[-4]
@@ -120,6 +132,7 @@ absolute_values_signs_and_divisors :
     ∷ value (minus 1)
     ∷ value (int 6)
     ∷ value (int 4) ∷ []
+unfolding eval row worked
 absolute_values_signs_and_divisors = refl
 
 -- Factorial[5]; Factorial[33]; Factorial[34]; Factorial[-1]
@@ -133,6 +146,7 @@ factorials :
     ∷ value (int 8683317618811886495518194401280000000)
     ∷ stopped Stop.Range
     ∷ value (of Builtin.Factorial (minus 1 ∷ [])) ∷ []
+unfolding eval row worked
 factorials = refl
 
 -- Max[1, {5, {7}}, 3]; Min[]; Max[x]
@@ -144,6 +158,7 @@ a_list_counts_as_its_elements :
     ≡ value (int 7)
     ∷ value (of Builtin.Min [])
     ∷ value (of Builtin.Max (x' ∷ [])) ∷ []
+unfolding eval row worked
 a_list_counts_as_its_elements = refl
 
 -- EvenQ[4]; OddQ[4]; EvenQ[x]
@@ -155,6 +170,7 @@ parity :
     ≡ value (symbol_of_row Builtin.True)
     ∷ value (symbol_of_row Builtin.False)
     ∷ value (symbol_of_row Builtin.False) ∷ []
+unfolding eval row worked
 parity = refl
 
 -- fac[n_] := n fac[n - 1]; fac[0] = 1; fac[10]; fac[33]; fac[34]
@@ -170,4 +186,5 @@ a_recursive_factorial :
     ∷ value (int 3628800)
     ∷ value (int 8683317618811886495518194401280000000)
     ∷ stopped Stop.Range ∷ []
+unfolding eval row worked matches
 a_recursive_factorial = refl

@@ -1,6 +1,9 @@
 -- Definitions: their order, refusals and removal.
 use Rattle.std.proofs.Common.{◌≡◌, refl, [], ◌∷◌}
 use Rattle.semantics.specs.Builtin.{Builtin}
+use Rattle.semantics.specs.Eval.{eval}
+use Rattle.semantics.specs.Table.{row, worked}
+use Rattle.semantics.specs.Match.{matches}
 use Rattle.worked_rows.specs.Sample.{a', apply, area', blank, cells, condition, delayed, equals, f', failed, g', h', int, l', list, m', n', null, numbers, of, p', plus, sq', symbol_of_row, value, x', y'}
 
 -- a[x_] := 1; a[0] = 2; a[0]; a[5]
@@ -14,6 +17,7 @@ the_more_special_rule_comes_first :
     ∷ value (int 2)
     ∷ value (int 2)
     ∷ value (int 1) ∷ []
+unfolding eval row worked matches
 the_more_special_rule_comes_first = refl
 
 -- f[x_] := 1; f[x_g] := 2; f[x_ /; x > 5] := 3; f[0]; f[g[0]]; f[9]
@@ -31,6 +35,7 @@ typed_blanks_and_conditions_come_before_plain_ones :
     ∷ value (int 1)
     ∷ value (int 2)
     ∷ value (int 3) ∷ []
+unfolding eval row worked matches
 typed_blanks_and_conditions_come_before_plain_ones = refl
 
 -- f[x_] := 1; f[x_] := 2; f[0]
@@ -42,6 +47,7 @@ an_identical_left_side_is_replaced :
     ≡ null
     ∷ null
     ∷ value (int 2) ∷ []
+unfolding eval row worked matches
 an_identical_left_side_is_replaced = refl
 
 -- f[x_] := 1 /; x > 5; f[3]; f[9]
@@ -53,6 +59,7 @@ a_right_condition_guards :
     ≡ null
     ∷ value (apply f' (int 3))
     ∷ value (int 1) ∷ []
+unfolding eval row worked matches
 a_right_condition_guards = refl
 
 -- p[1] = True; f[x_] := 1 /; p[x]; f[1]; f[2]
@@ -66,6 +73,7 @@ a_guard_may_have_rules_of_its_own :
     ∷ null
     ∷ value (int 1)
     ∷ value (apply f' (int 2)) ∷ []
+unfolding eval row worked matches
 a_guard_may_have_rules_of_its_own = refl
 
 -- f[x_] /; x > 5 := 1; f[9]; Unset of the same left side; f[9]
@@ -79,6 +87,7 @@ a_left_condition_belongs_to_the_inner_symbol :
     ∷ value (int 1)
     ∷ null
     ∷ value (apply f' (int 9)) ∷ []
+unfolding eval row worked matches
 a_left_condition_belongs_to_the_inner_symbol = refl
 
 -- area[sq] ^= 4; area[sq]
@@ -88,6 +97,7 @@ an_up_value_belongs_to_the_element :
     ∷ apply area' sq' ∷ [])
     ≡ value (int 4)
     ∷ value (int 4) ∷ []
+unfolding eval row matches
 an_up_value_belongs_to_the_element = refl
 
 -- True = 3; f[x][y] = 1; x_ = 2; f[x_sq] ^:= 1; x /: f[y] = 2; 3 = 4; x /: x = 3
@@ -107,10 +117,12 @@ refused_assignments :
     ∷ failed
     ∷ failed
     ∷ failed ∷ []
+unfolding eval row worked
 refused_assignments = refl
 
 -- f[n = 1][y] = 2; n
 what_the_left_side_did_stays : cells (equals (apply (apply f' (equals n' (int 1))) y') (int 2) ∷ n' ∷ []) ≡ failed ∷ value (int 1) ∷ []
+unfolding eval row
 what_the_left_side_did_stays = refl
 
 -- x = 3; x =.; x; x =.; Clear[x]
@@ -126,6 +138,7 @@ own_values_go_and_come_back :
     ∷ value x'
     ∷ failed
     ∷ null ∷ []
+unfolding eval row
 own_values_go_and_come_back = refl
 
 -- SetAttributes[f, HoldAll]; f[x_] := x; Clear[f]; Attributes[f]; f[1 + 1]; ClearAll[f]; f[1 + 1]
@@ -145,6 +158,7 @@ clearing_keeps_the_attributes :
     ∷ value (apply f' (plus (int 1) (int 1)))
     ∷ null
     ∷ value (apply f' (int 2)) ∷ []
+unfolding eval row worked
 clearing_keeps_the_attributes = refl
 
 -- these names stand in the table's order: Attributes[Plus]; SetAttributes[f, {Orderless, Flat}]; Attributes[f]; ClearAttributes[f, Flat]; Attributes[f]
@@ -160,6 +174,7 @@ attribute_names_are_in_canonical_order :
     ∷ value (list (symbol_of_row Builtin.Flat ∷ symbol_of_row Builtin.Orderless ∷ []))
     ∷ null
     ∷ value (list (symbol_of_row Builtin.Orderless ∷ [])) ∷ []
+unfolding eval row worked
 attribute_names_are_in_canonical_order = refl
 
 -- Protect[f]; f[x] = 1; Clear[f]; SetAttributes[f, Flat]; Unprotect[f]; f[x] = 1
@@ -177,6 +192,7 @@ protected_symbols_refuse :
     ∷ failed
     ∷ null
     ∷ value (int 1) ∷ []
+unfolding eval row
 protected_symbols_refuse = refl
 
 -- n = 5; n++; n; ++n; n += 3; n *= 2; n -= 4; n--; m++
@@ -200,6 +216,7 @@ increments_give_the_old_or_the_new_value :
     ∷ value (int 16)
     ∷ value (int 16)
     ∷ failed ∷ []
+unfolding eval row worked
 increments_give_the_old_or_the_new_value = refl
 
 -- l = {1}; AppendTo[l, 2]; PrependTo[l, 0]; l
@@ -213,6 +230,7 @@ elements_are_added_to_a_value :
     ∷ value (numbers (1 ∷ 2 ∷ []))
     ∷ value (numbers (0 ∷ 1 ∷ 2 ∷ []))
     ∷ value (numbers (0 ∷ 1 ∷ 2 ∷ [])) ∷ []
+unfolding eval row worked
 elements_are_added_to_a_value = refl
 
 -- g /: f[g] = 1 + 1; f[g]; g /: h[g] := 1 + 1; h[g]
@@ -226,4 +244,5 @@ a_tagged_assignment_evaluates_its_right_side :
     ∷ value (int 2)
     ∷ null
     ∷ value (int 2) ∷ []
+unfolding eval row worked matches
 a_tagged_assignment_evaluates_its_right_side = refl

@@ -9,6 +9,7 @@ use Rattle.semantics.specs.Program.{Cell}
 use Rattle.semantics.specs.Play.{Setting}
 use Rattle.semantics.specs.Eval.{eval}
 use Rattle.semantics.specs.Texts.{names_of}
+use Rattle.semantics.specs.Table.{row, worked}
 use Rattle.worked_rows.specs.Sample.{usual, value}
 
 abbrev texts : List (List ℕ)
@@ -46,4 +47,5 @@ in_cell = record { names = names; shown = λ e. []; mode = Cell; kernel = 0; lim
 -- 1 + x + 2
 rows_are_found_by_their_texts : (eval in_cell empty (make names Builtin.Plus (integer (pos 1) ∷ symbol (record { base = 169; number = 0 }) ∷ integer (pos 2) ∷ [])) []).outcome
     ≡ value (make names Builtin.Plus (integer (pos 3) ∷ symbol (record { base = 169; number = 0 }) ∷ []))
+unfolding eval row worked
 rows_are_found_by_their_texts = refl

@@ -3,6 +3,8 @@ use Rattle.std.proofs.Common.{◌≡◌, refl, [], ◌∷◌}
 use Rattle.std.specs.Prelude.{codes}
 use Rattle.expr_tree.specs.Tree.{string}
 use Rattle.semantics.specs.Builtin.{Builtin}
+use Rattle.semantics.specs.Eval.{eval}
+use Rattle.semantics.specs.Table.{row, worked}
 use Rattle.worked_rows.specs.Sample.{a', apply, b', cells, equals, f', int, list, n', of, symbol_of_row, value, x', y'}
 
 -- 1 == 1; 1 == 2; x == x; x == y; "a" == "b"; Equal[]
@@ -20,6 +22,7 @@ equality :
     ∷ value (of Builtin.Equal (x' ∷ y' ∷ []))
     ∷ value (symbol_of_row Builtin.False)
     ∷ value (symbol_of_row Builtin.True) ∷ []
+unfolding eval row worked
 equality = refl
 
 -- Unequal[1, 2, 3]; Unequal[1, 2, 1]; Unequal[x, y]; Unequal[x]; Unequal[]
@@ -35,6 +38,7 @@ inequality :
     ∷ value (of Builtin.Unequal (x' ∷ y' ∷ []))
     ∷ value (of Builtin.Unequal (x' ∷ []))
     ∷ value (symbol_of_row Builtin.True) ∷ []
+unfolding eval row worked
 inequality = refl
 
 -- 1 < 2 < 3; 1 < 1; 2 >= 2; Less[1]; Less[x]; 3 > x
@@ -52,6 +56,7 @@ orders_of_integers :
     ∷ value (symbol_of_row Builtin.True)
     ∷ value (of Builtin.Less (x' ∷ []))
     ∷ value (of Builtin.Greater (int 3 ∷ x' ∷ [])) ∷ []
+unfolding eval row worked
 orders_of_integers = refl
 
 -- x === x; x === y; UnsameQ[x, y, x]
@@ -63,6 +68,7 @@ sameness :
     ≡ value (symbol_of_row Builtin.True)
     ∷ value (symbol_of_row Builtin.False)
     ∷ value (symbol_of_row Builtin.False) ∷ []
+unfolding eval row worked
 sameness = refl
 
 -- AtomQ[3]; AtomQ[f[x]]; IntegerQ["a"]; StringQ["a"]; ListQ[{}]; TrueQ[x]; OrderedQ[{a, b}]
@@ -82,6 +88,7 @@ tests_of_kinds :
     ∷ value (symbol_of_row Builtin.True)
     ∷ value (symbol_of_row Builtin.False)
     ∷ value (symbol_of_row Builtin.False) ∷ []
+unfolding eval row worked
 tests_of_kinds = refl
 
 -- And[1 == 1, x]; And[x, 1 == 2, n = 1]; n; Or[x, y]; Or[x, 1 == 1]; Not[1 == 1]; And[]
@@ -101,4 +108,5 @@ connectives_evaluate_in_turn :
     ∷ value (symbol_of_row Builtin.True)
     ∷ value (symbol_of_row Builtin.False)
     ∷ value (symbol_of_row Builtin.True) ∷ []
+unfolding eval row worked
 connectives_evaluate_in_turn = refl

@@ -5,6 +5,8 @@ use Rattle.std.specs.Str.{chars}
 use Rattle.std.specs.Char.{encode_utf8}
 use Rattle.expr_tree.specs.Tree.{call, string}
 use Rattle.semantics.specs.Builtin.{Builtin}
+use Rattle.semantics.specs.Eval.{eval}
+use Rattle.semantics.specs.Table.{row, worked}
 use Rattle.worked_rows.specs.Sample.{a', apply, b', c', cells, f', g', int, list, minus, numbers, of, plus, symbol_of_row, value, x'}
 
 -- {a, b}[[-1]]; f[a, b][[0]]; {{a, b}, {c, f}}[[{1, 2}, 2]]; {a}[[2]]; Part[a]
@@ -20,6 +22,7 @@ parts :
     ∷ value (list (b' ∷ f' ∷ []))
     ∷ value (of Builtin.Part (list (a' ∷ []) ∷ int 2 ∷ []))
     ∷ value (of Builtin.Part (a' ∷ [])) ∷ []
+unfolding eval row worked
 parts = refl
 
 -- First[{a, b}]; Last[{a, b}]; Rest[{a, b}]; Most[f[a, b]]; First[{}]
@@ -35,6 +38,7 @@ first_last_rest_most :
     ∷ value (list (b' ∷ []))
     ∷ value (apply f' a')
     ∷ value (of Builtin.First (list [] ∷ [])) ∷ []
+unfolding eval row worked
 first_last_rest_most = refl
 
 -- Take[{a, b, c}, 2]; Take[{a, b, c}, -2]; Take[{a, b, c}, {2, 3}]; Take[{a, b, c}, {-2, -1}]; Take[{a, b, c}, {3, 2}]; Take[{a}, {1, 2}]; Take[{a}, 0]
@@ -54,6 +58,7 @@ taking :
     ∷ value (list [])
     ∷ value (of Builtin.Take (list (a' ∷ []) ∷ numbers (1 ∷ 2 ∷ []) ∷ []))
     ∷ value (list []) ∷ []
+unfolding eval row worked
 taking = refl
 
 -- Drop[{a, b, c}, 1]; Drop[{a, b, c}, -1]; Drop[{a, b, c}, {2, 2}]; Drop[{a, b, c}, {3, 2}]
@@ -67,6 +72,7 @@ dropping :
     ∷ value (list (a' ∷ b' ∷ []))
     ∷ value (list (a' ∷ c' ∷ []))
     ∷ value (list (a' ∷ b' ∷ c' ∷ [])) ∷ []
+unfolding eval row worked
 dropping = refl
 
 -- Append[f[a], b]; Prepend[{a}, b]; Reverse[f[a, b]]; Sort[{c, a, b}]
@@ -80,6 +86,7 @@ adding_and_turning :
     ∷ value (list (b' ∷ a' ∷ []))
     ∷ value (call f' (b' ∷ a' ∷ []))
     ∷ value (list (a' ∷ b' ∷ c' ∷ [])) ∷ []
+unfolding eval row worked
 adding_and_turning = refl
 
 -- Union[{2, 1}, {2}]; Join[{a}, {b, c}]; Join[f[a], f[b]]; Join[]; Join[{a}, f[b]]
@@ -95,6 +102,7 @@ joining :
     ∷ value (call f' (a' ∷ b' ∷ []))
     ∷ value (list [])
     ∷ value (of Builtin.Join (list (a' ∷ []) ∷ apply f' b' ∷ [])) ∷ []
+unfolding eval row worked
 joining = refl
 
 -- Flatten[{1, {2, {3}}}]; Flatten[{1, {2, {3}}}, 1]; Flatten[f[{1}, g[{2}]]]
@@ -106,6 +114,7 @@ flattening :
     ≡ value (numbers (1 ∷ 2 ∷ 3 ∷ []))
     ∷ value (list (int 1 ∷ int 2 ∷ numbers (3 ∷ []) ∷ []))
     ∷ value (call f' (int 1 ∷ apply g' (numbers (2 ∷ [])) ∷ [])) ∷ []
+unfolding eval row worked
 flattening = refl
 
 -- Partition[{1, 2, 3, 4, 5}, 2]; Transpose[{{1, 2}, {a, b}}]; Transpose[{}]; Transpose[{{1}, {2, 3}}]
@@ -119,6 +128,7 @@ cutting :
     ∷ value (list (list (int 1 ∷ a' ∷ []) ∷ list (int 2 ∷ b' ∷ []) ∷ []))
     ∷ value (of Builtin.Transpose (list [] ∷ []))
     ∷ value (of Builtin.Transpose (list (numbers (1 ∷ []) ∷ numbers (2 ∷ 3 ∷ []) ∷ []) ∷ [])) ∷ []
+unfolding eval row worked
 cutting = refl
 
 -- Range[3]; Range[2, 4]; Range[5, 1, -2]; Range[0]; ConstantArray[x, 2]; ConstantArray[x, -1]; Array[f, 2]; Array[f, -1]
@@ -140,6 +150,7 @@ making :
     ∷ value (list [])
     ∷ value (list (apply f' (int 1) ∷ apply f' (int 2) ∷ []))
     ∷ value (list []) ∷ []
+unfolding eval row worked
 making = refl
 
 -- Map[f, g[a, b]]; Map[f, 3]; Apply[Plus, {1, 2}]; Apply[f, 3]; Total[{1, 2, 3}]; Length[3]; Length[{a}]
@@ -159,6 +170,7 @@ mapping :
     ∷ value (int 6)
     ∷ value (int 0)
     ∷ value (int 1) ∷ []
+unfolding eval row worked
 mapping = refl
 
 -- ReleaseHold[Hold[1 + 1]]; ReleaseHold[HoldPattern[x]]; ReleaseHold[3]; Identity[x]; Evaluate[x]
@@ -174,6 +186,7 @@ holding_and_releasing :
     ∷ value (of Builtin.ReleaseHold (int 3 ∷ []))
     ∷ value x'
     ∷ value x' ∷ []
+unfolding eval row worked
 holding_and_releasing = refl
 
 -- StringJoin["ab", "c"]; StringJoin[]; StringJoin["a", x]
@@ -185,6 +198,7 @@ strings_join :
     ≡ value (string (codes "abc"))
     ∷ value (string (codes ""))
     ∷ value (of Builtin.StringJoin (string (codes "a") ∷ x' ∷ [])) ∷ []
+unfolding eval row worked
 strings_join = refl
 
 -- of the bytes 195 169 98, which are two characters: StringLength, Characters, StringReverse
@@ -194,5 +208,5 @@ strings_have_characters :
     ∷ of Builtin.Characters (string (195 ∷ 169 ∷ 98 ∷ []) ∷ [])
     ∷ of Builtin.StringReverse (string (195 ∷ 169 ∷ 98 ∷ []) ∷ []) ∷ [])
     ≡ value (int 2) ∷ value (list (string (195 ∷ 169 ∷ []) ∷ string (98 ∷ []) ∷ [])) ∷ value (string (98 ∷ 195 ∷ 169 ∷ [])) ∷ []
-unfolding chars encode_utf8
+unfolding chars encode_utf8 eval row worked
 strings_have_characters = refl

@@ -2,6 +2,9 @@
 use Rattle.std.proofs.Common.{◌≡◌, refl, [], ◌∷◌}
 use Rattle.expr_tree.specs.Tree.{call}
 use Rattle.semantics.specs.Builtin.{Builtin}
+use Rattle.semantics.specs.Eval.{eval}
+use Rattle.semantics.specs.Table.{row, worked}
+use Rattle.semantics.specs.Match.{matches}
 use Rattle.worked_rows.specs.Sample.{a', apply, b', blank, blanks, cells, condition, equals, f', g', h', int, list, n', null, numbers, o', of, plus, replacing, rule, some_blanks, symbol_of_row, value, x', y'}
 
 -- {1, 2, 3} /. {x__, y__} -> {{x}, {y}}
@@ -9,6 +12,7 @@ a_sequence_takes_the_shortest_run_first :
     cells (
     replacing (numbers (1 ∷ 2 ∷ 3 ∷ [])) (rule (list (blanks x' ∷ blanks y' ∷ [])) (list (list (x' ∷ []) ∷ list (y' ∷ []) ∷ []))) ∷ [])
     ≡ value (list (numbers (1 ∷ []) ∷ numbers (2 ∷ 3 ∷ []) ∷ [])) ∷ []
+unfolding eval row worked matches
 a_sequence_takes_the_shortest_run_first = refl
 
 -- MatchQ[f[1, 2], f[x_, y_]]; MatchQ[f[1, 2], f[x_, x_]]; MatchQ[f[1, 1], f[x_, x_]]
@@ -20,6 +24,7 @@ equal_names_match_identical_expressions :
     ≡ value (symbol_of_row Builtin.True)
     ∷ value (symbol_of_row Builtin.False)
     ∷ value (symbol_of_row Builtin.True) ∷ []
+unfolding eval row worked matches
 equal_names_match_identical_expressions = refl
 
 -- SetAttributes[g, Flat]; g[1, 2, 3] /. g[x_, y_] -> {x, y}
@@ -29,6 +34,7 @@ a_blank_under_flat_takes_a_run :
     ∷ replacing (call g' (int 1 ∷ int 2 ∷ int 3 ∷ [])) (rule (call g' (blank x' ∷ blank y' ∷ [])) (list (x' ∷ y' ∷ []))) ∷ [])
     ≡ null
     ∷ value (list (int 1 ∷ call g' (int 2 ∷ int 3 ∷ []) ∷ [])) ∷ []
+unfolding eval row worked matches
 a_blank_under_flat_takes_a_run = refl
 
 -- SetAttributes[o, Orderless]; o[b, a] /. o[x_, y_] -> {x, y}
@@ -38,6 +44,7 @@ orderless_patterns_choose_by_position :
     ∷ replacing (call o' (b' ∷ a' ∷ [])) (rule (call o' (blank x' ∷ blank y' ∷ [])) (list (x' ∷ y' ∷ []))) ∷ [])
     ≡ null
     ∷ value (list (a' ∷ b' ∷ [])) ∷ []
+unfolding eval row worked matches
 orderless_patterns_choose_by_position = refl
 
 -- MatchQ[f[1], _f]; MatchQ[3, _f]; MatchQ[{1, 2}, {__f}]; MatchQ[{}, {___}]
@@ -51,6 +58,7 @@ a_typed_blank_asks_for_a_head :
     ∷ value (symbol_of_row Builtin.False)
     ∷ value (symbol_of_row Builtin.False)
     ∷ value (symbol_of_row Builtin.True) ∷ []
+unfolding eval row worked matches
 a_typed_blank_asks_for_a_head = refl
 
 -- {1, 2} /. {x_, y_} | {y_, x_} -> f[x, y]; MatchQ[b, a | b]
@@ -60,6 +68,7 @@ alternatives_go_from_left_to_right :
     ∷ of Builtin.MatchQ (b' ∷ of Builtin.Alternatives (a' ∷ b' ∷ []) ∷ []) ∷ [])
     ≡ value (call f' (int 1 ∷ int 2 ∷ []))
     ∷ value (symbol_of_row Builtin.True) ∷ []
+unfolding eval row worked matches
 alternatives_go_from_left_to_right = refl
 
 -- Cases[{1, a, 2}, _?IntegerQ]; Cases[{1, a, 2}, x_ /; x > 1]
@@ -69,6 +78,7 @@ tests_and_conditions_guard :
     ∷ of Builtin.Cases (list (int 1 ∷ a' ∷ int 2 ∷ []) ∷ condition (blank x') (of Builtin.Greater (x' ∷ int 1 ∷ [])) ∷ []) ∷ [])
     ≡ value (numbers (1 ∷ 2 ∷ []))
     ∷ value (numbers (2 ∷ [])) ∷ []
+unfolding eval row worked matches
 tests_and_conditions_guard = refl
 
 -- n = 0; MatchQ[5, x_ /; (n = n + 1; x > 3)]; n
@@ -80,6 +90,7 @@ a_guard_of_a_question_is_tried_once :
     ≡ value (int 0)
     ∷ value (symbol_of_row Builtin.True)
     ∷ value (int 1) ∷ []
+unfolding eval row worked matches
 a_guard_of_a_question_is_tried_once = refl
 
 -- MatchQ[x_, Verbatim[x_]]; MatchQ[3, Verbatim[x_]]; MatchQ[3, HoldPattern[x_]]
@@ -91,6 +102,7 @@ verbatim_and_hold_pattern :
     ≡ value (symbol_of_row Builtin.True)
     ∷ value (symbol_of_row Builtin.False)
     ∷ value (symbol_of_row Builtin.True) ∷ []
+unfolding eval row worked matches
 verbatim_and_hold_pattern = refl
 
 -- MatchQ[Pattern[1, _], Pattern[1, _]]; MatchQ[3, Pattern[1, _]]
@@ -100,6 +112,7 @@ another_shape_is_ordinary :
     ∷ of Builtin.MatchQ (int 3 ∷ of Builtin.Pattern (int 1 ∷ of Builtin.Blank [] ∷ []) ∷ []) ∷ [])
     ≡ value (symbol_of_row Builtin.True)
     ∷ value (symbol_of_row Builtin.False) ∷ []
+unfolding eval row worked matches
 another_shape_is_ordinary = refl
 
 -- f[a] /. f[x_, y___] -> g[y, x]
@@ -107,6 +120,7 @@ a_run_of_none_is_an_empty_sequence :
     cells (
     replacing (apply f' a') (rule (call f' (blank x' ∷ some_blanks y' ∷ [])) (call g' (y' ∷ x' ∷ []))) ∷ [])
     ≡ value (apply g' a') ∷ []
+unfolding eval row worked matches
 a_run_of_none_is_an_empty_sequence = refl
 
 -- Cases[h[1, a, 2], _?IntegerQ]; Cases[{f[1], a}, f[x_] -> x]
@@ -116,6 +130,7 @@ the_head_of_the_list_is_kept :
     ∷ of Builtin.Cases (list (apply f' (int 1) ∷ a' ∷ []) ∷ rule (apply f' (blank x')) x' ∷ []) ∷ [])
     ≡ value (call h' (int 1 ∷ int 2 ∷ []))
     ∷ value (numbers (1 ∷ [])) ∷ []
+unfolding eval row worked matches
 the_head_of_the_list_is_kept = refl
 
 -- Count[{1, a, 2}, _]; MemberQ[{a, b}, b]; FreeQ[f[g[x]], g]; FreeQ[f[x], y]
@@ -129,6 +144,7 @@ counting_and_searching :
     ∷ value (symbol_of_row Builtin.True)
     ∷ value (symbol_of_row Builtin.False)
     ∷ value (symbol_of_row Builtin.True) ∷ []
+unfolding eval row worked matches
 counting_and_searching = refl
 
 -- f[f[x]] /. f[y_] -> g[y]; f[x] //. {f[y_] -> g[y], g[x] -> 3}; {a, b} /. {}
@@ -140,10 +156,12 @@ what_was_replaced_is_not_entered :
     ≡ value (apply g' (apply f' x'))
     ∷ value (int 3)
     ∷ value (list (a' ∷ b' ∷ [])) ∷ []
+unfolding eval row worked matches
 what_was_replaced_is_not_entered = refl
 
 -- f[f] /. f -> g
 the_head_is_replaced_before_the_elements : cells (replacing (apply f' f') (rule f' g') ∷ []) ≡ value (apply g' g') ∷ []
+unfolding eval row worked matches
 the_head_is_replaced_before_the_elements = refl
 
 -- {1, 2} /. x_?IntegerQ :> x + 1
@@ -151,4 +169,5 @@ delayed_rules_keep_their_right_side :
     cells (
     replacing (numbers (1 ∷ 2 ∷ [])) (of Builtin.RuleDelayed (of Builtin.PatternTest (blank x' ∷ symbol_of_row Builtin.IntegerQ ∷ []) ∷ plus x' (int 1) ∷ [])) ∷ [])
     ≡ value (numbers (2 ∷ 3 ∷ [])) ∷ []
+unfolding eval row worked matches
 delayed_rules_keep_their_right_side = refl

@@ -3,6 +3,8 @@ use Rattle.std.proofs.Common.{◌≡◌, refl, [], ◌∷◌}
 use Rattle.expr_tree.specs.Tree.{call}
 use Rattle.expr_tree.specs.declared.limits.Stop.{Stop}
 use Rattle.semantics.specs.Builtin.{Builtin}
+use Rattle.semantics.specs.Eval.{eval}
+use Rattle.semantics.specs.Table.{row, worked}
 use Rattle.worked_rows.specs.Sample.{a', apply, b', c', cells, equals, f', int, list, made, null, numbers, of, plus, stopped, symbol_of_row, value, x', y'}
 
 -- Module[{x = 2}, x + y]; Module[{x}, x]
@@ -12,6 +14,7 @@ module_makes_symbols_of_its_number :
     ∷ of Builtin.Module (list (x' ∷ []) ∷ x' ∷ []) ∷ [])
     ≡ value (plus (int 2) y')
     ∷ value (made 7 2) ∷ []
+unfolding eval row worked
 module_makes_symbols_of_its_number = refl
 
 -- x = 1; Module[{x = x + 1}, x]; Block[{x = x + 2}, x]; x
@@ -25,6 +28,7 @@ initial_values_are_evaluated_outside :
     ∷ value (int 2)
     ∷ value (int 3)
     ∷ value (int 1) ∷ []
+unfolding eval row worked
 initial_values_are_evaluated_outside = refl
 
 -- y = 1; Block[{y = 5}, y]; y; SetAttributes[f, HoldAll]; Block[{f}, f[1 + 1]]; f[1 + 1]
@@ -42,6 +46,7 @@ block_puts_back_what_was :
     ∷ null
     ∷ value (apply f' (int 2))
     ∷ value (apply f' (plus (int 1) (int 1))) ∷ []
+unfolding eval row worked
 block_puts_back_what_was = refl
 
 -- y = 1; Block[{y = 5}, 2^200]; y
@@ -53,6 +58,7 @@ block_puts_back_after_a_stop :
     ≡ value (int 1)
     ∷ stopped Stop.Range
     ∷ value (int 1) ∷ []
+unfolding eval row worked
 block_puts_back_after_a_stop = refl
 
 -- With[{y = 3}, Hold[y]]; With[{y}, y]
@@ -62,6 +68,7 @@ with_puts_values_in_place :
     ∷ of Builtin.With (list (y' ∷ []) ∷ y' ∷ []) ∷ [])
     ≡ value (of Builtin.Hold (int 3 ∷ []))
     ∷ value (of Builtin.With (list (y' ∷ []) ∷ y' ∷ [])) ∷ []
+unfolding eval row worked
 with_puts_values_in_place = refl
 
 -- With[{x = 2}, Function[x, x]]; With[{x = 2}, Hold[Module[{x = x}, x], x]]
@@ -71,6 +78,7 @@ inner_names_are_not_entered :
     ∷ of Builtin.With (list (equals x' (int 2) ∷ []) ∷ of Builtin.Hold (of Builtin.Module (list (equals x' x' ∷ []) ∷ x' ∷ []) ∷ x' ∷ []) ∷ []) ∷ [])
     ≡ value (of Builtin.Function (x' ∷ x' ∷ []))
     ∷ value (of Builtin.Hold (of Builtin.Module (list (equals x' x' ∷ []) ∷ x' ∷ []) ∷ int 2 ∷ [])) ∷ []
+unfolding eval row worked
 inner_names_are_not_entered = refl
 
 -- Module[{x, x}, x]; With[{x = 1, x = 2}, x]; Function[{x, x}, x][1, 2]
@@ -82,6 +90,7 @@ a_name_bound_twice_has_no_equation :
     ≡ value (of Builtin.Module (list (x' ∷ x' ∷ []) ∷ x' ∷ []))
     ∷ value (of Builtin.With (list (equals x' (int 1) ∷ equals x' (int 2) ∷ []) ∷ x' ∷ []))
     ∷ value (call (of Builtin.Function (list (x' ∷ x' ∷ []) ∷ x' ∷ [])) (int 1 ∷ int 2 ∷ [])) ∷ []
+unfolding eval row worked
 a_name_bound_twice_has_no_equation = refl
 
 -- Function[x, x + 1][2]; Function[{x, y}, {y, x}][1, 2, 3]; Function[{x, y}, x][1]
@@ -93,6 +102,7 @@ functions_take_arguments :
     ≡ value (int 3)
     ∷ value (numbers (2 ∷ 1 ∷ []))
     ∷ value (apply (of Builtin.Function (list (x' ∷ y' ∷ []) ∷ x' ∷ [])) (int 1)) ∷ []
+unfolding eval row worked
 functions_take_arguments = refl
 
 -- (# + 1 &) /@ {1, 2}; Function[f[##2]][a, b, c]; Function[f[##2]][a]; Function[##1][a]; Function[#2][a]
@@ -108,6 +118,7 @@ slots_take_arguments :
     ∷ value (apply f' (of Builtin.SlotSequence (int 2 ∷ [])))
     ∷ value a'
     ∷ value (of Builtin.Slot (int 2 ∷ [])) ∷ []
+unfolding eval row worked
 slots_take_arguments = refl
 
 -- Function[{#, Function[#]}][a]
@@ -115,4 +126,5 @@ slots_do_not_enter_an_inner_function :
     cells (
     apply (of Builtin.Function (list (of Builtin.Slot (int 1 ∷ []) ∷ of Builtin.Function (of Builtin.Slot (int 1 ∷ []) ∷ []) ∷ []) ∷ [])) a' ∷ [])
     ≡ value (list (a' ∷ of Builtin.Function (of Builtin.Slot (int 1 ∷ []) ∷ []) ∷ [])) ∷ []
+unfolding eval row worked
 slots_do_not_enter_an_inner_function = refl

@@ -8,6 +8,7 @@ use Rattle.semantics.specs.Definitions.{Definitions, Variable, Function, empty}
 use Rattle.semantics.specs.Program.{Service, Access, Count, Print, Outside, Sends, Enter, Leave}
 use Rattle.semantics.specs.Play.{Setting, Reply, Replied, Halted, Quit}
 use Rattle.semantics.specs.Eval.{Event, Outcome, Ended, Needs, Wrong, eval}
+use Rattle.semantics.specs.Table.{row, worked}
 use Rattle.worked_rows.specs.Sample.{a', apply, b', blank, f', failed, i', in_cell, in_item, int, j', list, lock', n', null, numbers, of, plus, setting, stopped, sym, symbol_of_row, times, usual, value, x'}
 
 in_service : Setting
@@ -47,47 +48,47 @@ read_as e v = record { call = Sends (Access e); reply = Replied v; after = shari
 
 -- ParallelMap[f, {a}] is one call in a cell; the reply is its value; a stop stops with its cause; another call is not the one that was needed
 a_form_is_one_call : cell (of Builtin.ParallelMap (f' ∷ list (a' ∷ []) ∷ [])) [] ≡ asks (of Builtin.ParallelMap (f' ∷ list (a' ∷ []) ∷ []))
-unfolding cell asks
+unfolding cell asks eval row worked
 a_form_is_one_call = refl
 
 a_reply_is_the_value : cell (of Builtin.ParallelMap (f' ∷ list (a' ∷ []) ∷ [])) (answered (of Builtin.ParallelMap (f' ∷ list (a' ∷ []) ∷ [])) (Replied (int 7)) ∷ []) ≡ value (int 7)
-unfolding cell answered
+unfolding cell answered eval row worked
 a_reply_is_the_value = refl
 
 a_stop_stops : cell (of Builtin.ParallelMap (f' ∷ list (a' ∷ []) ∷ [])) (answered (of Builtin.ParallelMap (f' ∷ list (a' ∷ []) ∷ [])) (Halted Stop.Size) ∷ []) ≡ stopped Stop.Size
-unfolding cell answered
+unfolding cell answered eval row worked
 a_stop_stops = refl
 
 another_call_is_wrong : cell (of Builtin.ParallelMap (f' ∷ list (a' ∷ []) ∷ [])) (answered a' (Replied (int 7)) ∷ []) ≡ Wrong
-unfolding cell answered
+unfolding cell answered eval row worked
 another_call_is_wrong = refl
 
 -- ParallelTable[i, {i, 1 + 1}]: the parts of the first iterator are evaluated before the call
 parts_come_before_the_call :
     cell (of Builtin.ParallelTable (i' ∷ list (i' ∷ plus (int 1) (int 1) ∷ []) ∷ [])) [] ≡ asks (of Builtin.ParallelTable (i' ∷ list (i' ∷ int 2 ∷ []) ∷ []))
-unfolding cell asks
+unfolding cell asks eval row worked
 parts_come_before_the_call = refl
 
 -- ParallelTable[i, {i, a}]; ParallelSubmit[]; DistributeDefinitions[3]; ParallelTry[f, 3]: a shape that is not named stays
 other_shapes_stay : cell (of Builtin.ParallelTable (i' ∷ list (i' ∷ a' ∷ []) ∷ [])) [] ≡ value (of Builtin.ParallelTable (i' ∷ list (i' ∷ a' ∷ []) ∷ []))
-unfolding cell
+unfolding cell eval row
 other_shapes_stay = refl
 
 an_empty_submission_stays : cell (of Builtin.ParallelSubmit []) [] ≡ value (of Builtin.ParallelSubmit [])
-unfolding cell
+unfolding cell eval row
 an_empty_submission_stays = refl
 
 what_is_no_symbol_is_not_distributed : cell (of Builtin.DistributeDefinitions (int 3 ∷ [])) [] ≡ value (of Builtin.DistributeDefinitions (int 3 ∷ []))
-unfolding cell
+unfolding cell eval row
 what_is_no_symbol_is_not_distributed = refl
 
 -- in an item ParallelMap is Map, and ParallelSum[i j, {i, 2}, {j, 2}] is 9
 in_an_item_forms_are_sequential : item (of Builtin.ParallelMap (f' ∷ numbers [] ∷ [])) [] ≡ value (list [])
-unfolding item sharing
+unfolding item sharing eval row worked
 in_an_item_forms_are_sequential = refl
 
 a_sequential_sum : item (of Builtin.ParallelSum (times i' j' ∷ list (i' ∷ int 2 ∷ []) ∷ list (j' ∷ int 2 ∷ []) ∷ [])) [] ≡ value (int 9)
-unfolding item sharing
+unfolding item sharing eval row worked
 a_sequential_sum = refl
 
 -- ParallelTry[If[# > 2, #, $Failed] &, {1, 2, 3}] and over {1, 2}, in an item
@@ -96,71 +97,71 @@ larger_than_two =
     of Builtin.Function (of Builtin.If (of Builtin.Greater (of Builtin.Slot (int 1 ∷ []) ∷ int 2 ∷ []) ∷ of Builtin.Slot (int 1 ∷ []) ∷ symbol_of_row Builtin.Failed ∷ []) ∷ [])
 
 the_first_success : item (of Builtin.ParallelTry (larger_than_two ∷ numbers (1 ∷ 2 ∷ 3 ∷ []) ∷ [])) [] ≡ value (int 3)
-unfolding item sharing larger_than_two
+unfolding item sharing larger_than_two eval row worked
 the_first_success = refl
 
 no_success : item (of Builtin.ParallelTry (larger_than_two ∷ numbers (1 ∷ 2 ∷ []) ∷ [])) [] ≡ failed
-unfolding item sharing larger_than_two
+unfolding item sharing larger_than_two eval row worked
 no_success = refl
 
 -- ParallelCombine[Length, {a, b}, List]; ParallelEvaluate[1]; WaitAll[EvaluationObject[1]]; WaitAll[3], in an item
 a_sequential_combination : item (of Builtin.ParallelCombine (symbol_of_row Builtin.Length ∷ list (a' ∷ b' ∷ []) ∷ symbol_of_row Builtin.List ∷ [])) [] ≡ value (numbers (2 ∷ []))
-unfolding item sharing
+unfolding item sharing eval row worked
 a_sequential_combination = refl
 
 an_item_cannot_wait : item (of Builtin.WaitAll (of Builtin.EvaluationObject (int 1 ∷ []) ∷ [])) [] ≡ failed
-unfolding item sharing
+unfolding item sharing eval row worked
 an_item_cannot_wait = refl
 
 waiting_for_nothing : item (of Builtin.WaitAll (int 3 ∷ [])) [] ≡ value (int 3)
-unfolding item sharing
+unfolding item sharing eval row
 waiting_for_nothing = refl
 
 -- ---- shared symbols
 
 -- n; n++ + 1: an access is sent as it stands, and its reply goes on; n++ twice are two accesses
 a_shared_variable_is_read : item n' (read_as n' (int 5) ∷ []) ≡ value (int 5)
-unfolding item sharing read_as
+unfolding item sharing read_as eval
 a_shared_variable_is_read = refl
 
 an_increment_is_an_access : item (plus (of Builtin.Increment (n' ∷ [])) (int 1)) (read_as (of Builtin.Increment (n' ∷ [])) (int 0) ∷ []) ≡ value (int 1)
-unfolding item sharing read_as
+unfolding item sharing read_as eval row worked
 an_increment_is_an_access = refl
 
 two_increments_are_two_accesses :
     item (list (of Builtin.Increment (n' ∷ []) ∷ of Builtin.Increment (n' ∷ []) ∷ [])) (read_as (of Builtin.Increment (n' ∷ [])) (int 0) ∷ []) ≡ accesses (of Builtin.Increment (n' ∷ []))
-unfolding item sharing read_as accesses
+unfolding item sharing read_as accesses eval
 two_increments_are_two_accesses = refl
 
 -- f[1 + 1] of a shared function, with its elements evaluated; Increment[n, 3]
 a_shared_function_is_asked : item (apply f' (plus (int 1) (int 1))) [] ≡ accesses (apply f' (int 2))
-unfolding item sharing accesses
+unfolding item sharing accesses eval row worked
 a_shared_function_is_asked = refl
 
 an_access_of_any_length : item (of Builtin.Increment (n' ∷ int 3 ∷ [])) [] ≡ accesses (of Builtin.Increment (n' ∷ int 3 ∷ []))
-unfolding item sharing accesses
+unfolding item sharing accesses eval
 an_access_of_any_length = refl
 
 -- an identical reply ends the evaluation
 an_identical_reply_stays : item n' (read_as n' n' ∷ []) ≡ value n'
-unfolding item sharing read_as
+unfolding item sharing read_as eval
 an_identical_reply_stays = refl
 
 -- Clear[f] of a shared function is neither access nor definition; n /: x[n] = 1 and Block[{n}, 1] are refused
 clearing_a_shared_function : item (of Builtin.Clear (f' ∷ [])) [] ≡ null
-unfolding item sharing
+unfolding item sharing eval row
 clearing_a_shared_function = refl
 
 another_definition_is_refused : item (of Builtin.SetDelayed (of Builtin.Condition (apply f' (blank x') ∷ x' ∷ []) ∷ int 1 ∷ [])) [] ≡ failed
-unfolding item sharing
+unfolding item sharing eval row
 another_definition_is_refused = refl
 
 a_shared_symbol_is_no_local : item (of Builtin.Block (list (n' ∷ []) ∷ int 1 ∷ [])) [] ≡ failed
-unfolding item sharing
+unfolding item sharing eval row
 a_shared_symbol_is_no_local = refl
 
 no_attributes_of_shared_symbols : item (of Builtin.Attributes (n' ∷ [])) [] ≡ failed
-unfolding item sharing
+unfolding item sharing eval row
 no_attributes_of_shared_symbols = refl
 
 -- ---- sections
@@ -173,63 +174,63 @@ entered =
 
 -- CriticalSection[{lock}, 3 + 4]; an inner one with the same lock makes no call, one with another lock fails; the section is left once
 a_section_gives_its_body : item (of Builtin.CriticalSection (list (lock' ∷ []) ∷ plus (int 3) (int 4) ∷ [])) entered ≡ value (int 7)
-unfolding item sharing entered
+unfolding item sharing entered eval row worked
 a_section_gives_its_body = refl
 
 an_inner_section_of_held_locks : item (of Builtin.CriticalSection (list (lock' ∷ []) ∷ of Builtin.CriticalSection (list (lock' ∷ []) ∷ int 1 ∷ []) ∷ [])) entered ≡ value (int 1)
-unfolding item sharing entered
+unfolding item sharing entered eval row
 an_inner_section_of_held_locks = refl
 
 an_inner_section_of_another_lock : item (of Builtin.CriticalSection (list (lock' ∷ []) ∷ of Builtin.CriticalSection (list (b' ∷ []) ∷ int 1 ∷ []) ∷ [])) entered ≡ failed
-unfolding item sharing entered
+unfolding item sharing entered eval row
 an_inner_section_of_another_lock = refl
 
 a_section_is_left : (eval in_item sharing (of Builtin.CriticalSection (list (lock' ∷ []) ∷ int 1 ∷ [])) entered).rest ≡ []
-unfolding sharing entered
+unfolding sharing entered eval row
 a_section_is_left = refl
 
 -- CriticalSection[{lock}, 2^200] stops once it was left; CriticalSection[{}, 3] makes no call; in a service it fails
 a_stop_leaves_the_section : item (of Builtin.CriticalSection (list (lock' ∷ []) ∷ of Builtin.Power (int 2 ∷ int 200 ∷ []) ∷ [])) entered ≡ stopped Stop.Range
-unfolding item sharing entered
+unfolding item sharing entered eval row worked
 a_stop_leaves_the_section = refl
 
 no_locks_no_section : item (of Builtin.CriticalSection (list [] ∷ int 3 ∷ [])) [] ≡ value (int 3)
-unfolding item sharing
+unfolding item sharing eval row
 no_locks_no_section = refl
 
 no_section_in_a_service : (eval in_service empty (of Builtin.CriticalSection (list [] ∷ int 3 ∷ [])) []).outcome ≡ failed
-unfolding in_service
+unfolding in_service eval row
 no_section_in_a_service = refl
 
 -- ---- modes
 
 -- $KernelID; $KernelCount; Quit[] in an item and in a cell
 the_kernels_number : item (symbol_of_row Builtin.KernelID) [] ≡ value (int 3)
-unfolding item sharing
+unfolding item sharing eval
 the_kernels_number = refl
 
 the_count_is_asked : item (symbol_of_row Builtin.KernelCount) [] ≡ Needs (Sends Count)
-unfolding item sharing
+unfolding item sharing eval
 the_count_is_asked = refl
 
 an_item_can_quit : item (of Builtin.Quit []) [] ≡ Ended Quit
-unfolding item sharing
+unfolding item sharing eval row
 an_item_can_quit = refl
 
 a_cell_cannot_quit : cell (of Builtin.Quit []) [] ≡ failed
-unfolding cell
+unfolding cell eval row
 a_cell_cannot_quit = refl
 
 -- Print["ab", x, "c"] is one line, in which a string is its own bytes and x, here, one question mark; its value is Null
 printing_is_one_line : cell (of Builtin.Print (string (codes "ab") ∷ x' ∷ string (codes "c") ∷ [])) [] ≡ Needs (Sends (Print (codes "ab?c")))
-unfolding cell
+unfolding cell eval row
 printing_is_one_line = refl
 
 -- where neither a mode nor a shared symbol mattered `used` is false: f[x_] := x, and $KernelID
 a_rule_uses_no_mode : (eval in_item sharing (plus (int 1) (int 2)) []).used ≡ false
-unfolding sharing
+unfolding sharing eval row worked
 a_rule_uses_no_mode = refl
 
 a_row_of_modes_is_used : (eval in_item sharing (symbol_of_row Builtin.KernelID) []).used ≡ true
-unfolding sharing
+unfolding sharing eval
 a_row_of_modes_is_used = refl

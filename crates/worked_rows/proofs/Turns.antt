@@ -2,6 +2,9 @@
 use Rattle.std.proofs.Common.{◌≡◌, refl, [], ◌∷◌}
 use Rattle.expr_tree.specs.Tree.{call}
 use Rattle.semantics.specs.Builtin.{Builtin}
+use Rattle.semantics.specs.Eval.{eval}
+use Rattle.semantics.specs.Table.{row, worked}
+use Rattle.semantics.specs.Match.{matches}
 use Rattle.worked_rows.specs.Sample.{a', apply, b', blank, c', cells, delayed, equals, f', g', h', i', int, j', list, minus, n', null, numbers, of, plus, symbol_of_row, times, value, x'}
 
 -- (n = 1; n = n + 1; n); CompoundExpression[]
@@ -11,6 +14,7 @@ compound_expressions_give_the_last :
     ∷ of Builtin.CompoundExpression [] ∷ [])
     ≡ value (int 2)
     ∷ value (of Builtin.CompoundExpression []) ∷ []
+unfolding eval row worked
 compound_expressions_give_the_last = refl
 
 -- If[1 == 1, a]; If[1 == 2, a]; If[x, a, b]; If[x, a, b, c]; If[1 == 2, n = 1, b]; n
@@ -28,6 +32,7 @@ if_has_two_to_four_elements :
     ∷ value c'
     ∷ value b'
     ∷ value n' ∷ []
+unfolding eval row worked
 if_has_two_to_four_elements = refl
 
 -- Which[1 == 2, a, 1 == 1, b]; Which[1 == 2, a]; Which[1 + 1, 3]; Which[]; Which[a]
@@ -43,6 +48,7 @@ which_takes_the_first_true :
     ∷ value (of Builtin.Which (int 2 ∷ int 3 ∷ []))
     ∷ null
     ∷ value (of Builtin.Which (a' ∷ [])) ∷ []
+unfolding eval row worked
 which_takes_the_first_true = refl
 
 -- n = 0; While[n < 5, n++]; n
@@ -54,6 +60,7 @@ while_evaluates_as_long :
     ≡ value (int 0)
     ∷ null
     ∷ value (int 5) ∷ []
+unfolding eval row worked
 while_evaluates_as_long = refl
 
 -- i = 7; Table[i, {i, 3}]; i
@@ -65,6 +72,7 @@ an_iterator_is_local :
     ≡ value (int 7)
     ∷ value (numbers (1 ∷ 2 ∷ 3 ∷ []))
     ∷ value (int 7) ∷ []
+unfolding eval row worked
 an_iterator_is_local = refl
 
 -- Table[x, {2}]; Table[i, {i, 2, 4}]; Table[i, {i, 5, 1, -2}]; Table[f[i], {i, {a, b}}]; Table[i, {i, 0}]; Table[i j, {i, 2}, {j, i}]
@@ -82,6 +90,7 @@ iterators_of_every_shape :
     ∷ value (list (apply f' a' ∷ apply f' b' ∷ []))
     ∷ value (list [])
     ∷ value (list (numbers (1 ∷ []) ∷ numbers (2 ∷ 4 ∷ []) ∷ [])) ∷ []
+unfolding eval row worked
 iterators_of_every_shape = refl
 
 -- Table[i, {i, a, n = 1}]; n
@@ -91,6 +100,7 @@ an_iterators_parts_are_evaluated_in_order :
     ∷ n' ∷ [])
     ≡ value (of Builtin.Table (i' ∷ list (i' ∷ a' ∷ equals n' (int 1) ∷ []) ∷ []))
     ∷ value n' ∷ []
+unfolding eval row
 an_iterators_parts_are_evaluated_in_order = refl
 
 -- Sum[i i, {i, 4}]; Sum[i, {i, x}]; n = 0; Do[n = n + i, {i, 4}]; n
@@ -106,6 +116,7 @@ sums_and_does :
     ∷ value (int 0)
     ∷ null
     ∷ value (int 10) ∷ []
+unfolding eval row worked
 sums_and_does = refl
 
 -- Fold[f, x, {a, b}]; FoldList[f, x, g[a]]; Nest[f, x, 2]; NestList[f, x, 2]; Nest[f, x, -1]; Nest[2 # &, 1, 10]
@@ -123,6 +134,7 @@ folds_and_nests :
     ∷ value (list (x' ∷ apply f' x' ∷ apply f' (apply f' x') ∷ []))
     ∷ value (of Builtin.Nest (f' ∷ x' ∷ minus 1 ∷ []))
     ∷ value (int 1024) ∷ []
+unfolding eval row worked
 folds_and_nests = refl
 
 -- FixedPoint[Function[Quotient[#, 2]], 20]; Select[h[1, 2, 3], OddQ]
@@ -132,6 +144,7 @@ fixed_points_and_selections :
     ∷ of Builtin.Select (call h' (int 1 ∷ int 2 ∷ int 3 ∷ []) ∷ symbol_of_row Builtin.OddQ ∷ []) ∷ [])
     ≡ value (int 0)
     ∷ value (call h' (int 1 ∷ int 3 ∷ [])) ∷ []
+unfolding eval row worked
 fixed_points_and_selections = refl
 
 -- f[0] = 0; f[1] = 1; f[n_] := f[n] = f[n - 1] + f[n - 2]; f[30]
@@ -145,6 +158,7 @@ a_function_that_remembers :
     ∷ value (int 1)
     ∷ null
     ∷ value (int 832040) ∷ []
+unfolding eval row worked matches
 a_function_that_remembers = refl
 
 -- Table[Mod[i i, 7], {i, 10}]
@@ -152,6 +166,7 @@ squares_modulo_seven :
     cells (
     of Builtin.Table (of Builtin.Mod (times i' i' ∷ int 7 ∷ []) ∷ list (i' ∷ int 10 ∷ []) ∷ []) ∷ [])
     ≡ value (numbers (1 ∷ 4 ∷ 2 ∷ 2 ∷ 4 ∷ 1 ∷ 0 ∷ 1 ∷ 4 ∷ 2 ∷ [])) ∷ []
+unfolding eval row worked
 squares_modulo_seven = refl
 
 -- c[1] = 0; c[n_] := 1 + c[If[EvenQ[n], Quotient[n, 2], 3 n + 1]]; Map[c, {9, 16, 3, 10}]
@@ -163,4 +178,5 @@ steps_of_a_halving_walk :
     ≡ value (int 0)
     ∷ null
     ∷ value (numbers (19 ∷ 4 ∷ 7 ∷ 6 ∷ [])) ∷ []
+unfolding eval row worked matches
 steps_of_a_halving_walk = refl
