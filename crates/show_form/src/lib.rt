@@ -17,3 +17,6 @@ pub use fault::FullFault;
 pub use full_form::full;
 pub use full_reader::read_full;
 pub use text_names::full_names;
+
+#[cfg(test)]
+mod tests;
