@@ -1,1 +1,5 @@
 pub mod Inside
+pub mod NumberRows
+pub mod ListRows
+pub mod Matching
+pub mod Programs
