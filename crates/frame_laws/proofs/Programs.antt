@@ -84,7 +84,7 @@ module _ (R : Realm) where
     later_in w u g (symbol s) one = g s one
     later_in w u g (normal h es) one = (later_in w u g h one.0, later_ins w u g es one.1)
 
-    later_ins : (w u : World) → grows w u → (es : Trees) → Ins (Member w) es → Ins (Member u) es
+    pub later_ins : (w u : World) → grows w u → (es : Trees) → Ins (Member w) es → Ins (Member u) es
     later_ins w u g nil all = tt
     later_ins w u g (cons e es) all = (later_in w u g e all.0, later_ins w u g es all.1)
 
@@ -164,6 +164,12 @@ module _ (R : Realm) where
   pub branch_if : (w : World) (b : Bool) {p q p' q' : Prog} → (b ≡ true → Both w p p') → Both w q q' → Both w (elim b [ true ↦ p | false ↦ q ]) (elim b [ true ↦ p' | false ↦ q' ])
   branch_if w true one other = one refl
   branch_if w false one other = other
+
+  -- with or without a value
+  pub option_both : {A : Type 0} (w : World) (P : A → Type 0) (o : Option A) {p q : Prog} {k l : A → Prog} → Opt P o → Both w p q → ((a : A) → P a → Both w (k a) (l a))
+      → Both w (elim o [ None ↦ p | Some a ↦ k a ]) (elim o [ None ↦ q | Some a ↦ l a ])
+  option_both w P None one here there = here
+  option_both w P (Some a) one here there = there a one
 
   pub itself : (w : World) → LaterGives w Done Done
   itself w u g v one = done one
