@@ -5,3 +5,5 @@ pub mod Matching
 pub mod Programs
 pub mod ControlRows
 pub mod ScopeRows
+pub mod FirstSteps
+pub mod ChangeRows

@@ -66,6 +66,9 @@ module _ (R : Realm) where
         → ((u : World) → grows w u → (v : Tree) → Has u v → Both u (k v) (l v)) → Both w (Within ls e k) (Within ls e l)
     look : {w : World} {s : Sym} {k l : Seen → Prog} → Member w s → ((x y : Seen) → SeenBoth w x y → Both w (k x) (l y)) → Both w (Look s k) (Look s l)
     put : {w : World} {s : Sym} {d : Definition} {p q : Prog} → Table → DefinedIn w d → ((u : World) → grows w u → Member u s → Both u p q) → Both w (Put s d p) (Put s d q)
+    -- a symbol's definition is changed; that of a shared one may differ in the two
+    edit : {w : World} {s : Sym} {f : Definition → Definition} {p q : Prog} → Table → Member w s → ((d : Definition) → DefinedIn w d → DefinedIn w (f d)) → Both w p q
+        → Both w (Look s (λ seen. Put s (f seen.definition) p)) (Look s (λ seen. Put s (f seen.definition) q))
     fresh : {w : World} {k l : ℕ → Prog} → ((m : ℕ) → Both w (k m) (l m)) → Both w (Fresh k) (Fresh l)
     turn : {w : World} {p q : Prog} → Both w p q → Both w (Turn p) (Turn q)
     check : {w : World} {e : Tree} {p q : Prog} → Has w e → Both w p q → Both w (Check e p) (Check e q)
