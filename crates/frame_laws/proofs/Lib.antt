@@ -7,3 +7,5 @@ pub mod ControlRows
 pub mod ScopeRows
 pub mod FirstSteps
 pub mod ChangeRows
+pub mod ModeRows
+pub mod Rows
