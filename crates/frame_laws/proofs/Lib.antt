@@ -9,3 +9,4 @@ pub mod FirstSteps
 pub mod ChangeRows
 pub mod ModeRows
 pub mod Rows
+pub mod Passes
