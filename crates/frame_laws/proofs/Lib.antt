@@ -10,3 +10,4 @@ pub mod ChangeRows
 pub mod ModeRows
 pub mod Rows
 pub mod Passes
+pub mod Agreeing

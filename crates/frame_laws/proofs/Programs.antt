@@ -16,6 +16,11 @@ use Rattle.semantics.specs.Attempt.{told, try_guards, try_binding, try_bindings,
 use Rattle.frame_laws.proofs.Inside.{both, chosen, Each, Opt, appended, mapped, In, Ins, AllIn, items, packed, called, AllBound, put_in_place_in}
 use Rattle.frame_laws.proofs.Matching.{GuardIn, FoundIn, matches_in, heads_inside, guard_in}
 
+-- one of two
+pub data Origin (A B : Type 0) : Type 0 where
+  before : A → Origin A B
+  new : B → Origin A B
+
 -- the sets of symbols of an evaluation, which grow as it goes on. A set that holds a name of the table holds all of them
 pub record Realm : Type 1 where
   pub names : Names
@@ -25,6 +30,11 @@ pub record Realm : Type 1 where
   pub knows : (w : World) → Table → (r : Builtin) → Member w (known names r)
   pub tabled : (w : World) (r : Builtin) (s : Sym) → Member w s → is_known names r s ≡ true → Table
   pub has_role : (w : World) (r : Builtin) (s : Sym) → Member w s → role_of names s ≡ Some r → Table
+  -- a set with one symbol more
+  pub extended : World → Sym → Table → World
+  pub kept : (w : World) (s : Sym) (t : Table) (x : Sym) → Member w x → Member (extended w s t) x
+  pub added : (w : World) (s : Sym) (t : Table) → Member (extended w s t) s
+  pub only : (w : World) (s : Sym) (t : Table) (x : Sym) → Member (extended w s t) x → Origin (Member w x) (x ≡ s)
 
 module _ (R : Realm) where
   open R use {names, World, Member, Table, knows, tabled}
