@@ -106,9 +106,14 @@ module _ (R : Realm) (shared : List Shared) where
       (subst (λ l. SeenBoth R w (looked (shared_as shared s) (stored names d s)) (looked (shared_as l s) (stored names c s))) (sym both.second)
       (looked_both w (shared_as shared s) (stored names d s) (stored names c s) (λ free. (both.same s s_in free, both.closed s s_in free))))
 
+  -- what is not shared is seen so
+  pub none_seen : (w : World) (d c : Definitions) (s : Sym) → Agree w d c → Unshared s → (seen names d s).shared ≡ None
+  none_seen w d c s both free =
+      ap (λ l. elim (shared_as l s) [ None ↦ None | Some e ↦ Some e.kind ]) both.first ∙ ap (λ o. elim o [ None ↦ None | Some e ↦ Some e.kind ]) free
+
   -- ---- locals
 
-  stays_in : (w : World) (s : Sym) (x : Sym) → Member w x → Origin (Member w x) (x ≡ s)
+  pub stays_in : (w : World) (s : Sym) (x : Sym) → Member w x → Origin (Member w x) (x ≡ s)
   stays_in w s x x_in = before x_in
 
   pub locals_agree : (w : World) (ls : List Local) (d c : Definitions) → Agree w d c → Each (LocalIn R w) ls → Agree w (put_locals names ls d) (put_locals names ls c)

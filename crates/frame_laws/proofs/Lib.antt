@@ -11,3 +11,4 @@ pub mod ModeRows
 pub mod Rows
 pub mod Passes
 pub mod Agreeing
+pub mod Following
