@@ -12,3 +12,4 @@ pub mod Rows
 pub mod Passes
 pub mod Agreeing
 pub mod Following
+pub mod Framed
