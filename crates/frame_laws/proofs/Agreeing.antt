@@ -1,15 +1,13 @@
 -- Definitions that agree on a set of symbols, the definitions of shared symbols aside, and what reading and writing make of them.
-use Rattle.std.proofs.Common.{◌≡◌, refl, sym, ap, subst, ◌∙◌, ℕ, Bool, true, false, List, [], ◌∷◌, Option, Some, None, is_none, T, true≢false}
+use Rattle.std.proofs.Common.{◌≡◌, refl, sym, ap, subst, ◌∙◌, Bool, true, false, List, [], ◌∷◌, Option, Some, None, is_none, T, true≢false}
 use Rattle.expr_tree.proofs.Same.{symbol_eq-Decides}
 use Rattle.expr_tree.specs.declared.sym.Sym.{Sym}
-use Rattle.expr_tree.specs.Tree.{Tree}
 use Rattle.expr_tree.specs.Order.{same_symbol}
-use Rattle.semantics.specs.Names.{Names}
 use Rattle.semantics.specs.Definitions.{Definition, Definitions, Shared, shared_as, stored, put}
 use Rattle.semantics.specs.Program.{Seen, Local}
 use Rattle.semantics.specs.Play.{seen, written, local_definition, put_locals, put_back}
 use Rattle.language_laws.proofs.Stored.{same_symbol-eq, stored_same, stored_other}
-use Rattle.frame_laws.proofs.Inside.{Each, Opt}
+use Rattle.frame_laws.proofs.Inside.{Each}
 use Rattle.frame_laws.proofs.Programs.{Origin, before, new, Realm, DefinedIn, SeenBoth, LocalIn, grows, same_world, later_defined}
 
 module _ (R : Realm) (shared : List Shared) where

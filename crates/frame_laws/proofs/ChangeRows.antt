@@ -1,23 +1,23 @@
 -- Assignments and the other rows that change definitions keep to a set of symbols that holds the table.
-use Rattle.std.proofs.Common.{◌≡◌, refl, sym, ap, subst, ◌∙◌, ℕ, Bool, true, false, List, [], ◌∷◌, ◌++◌, map, Option, Some, None, is_none, true≢false, T}
-use Rattle.std.specs.Prelude.{ℤ, pos, negsuc, ◌&&◌, ◌||◌, not, is_some}
+use Rattle.std.proofs.Common.{◌≡◌, refl, sym, subst, Bool, true, false, List, [], ◌∷◌, map, Option, Some, None, true≢false}
+use Rattle.std.specs.Prelude.{ℤ, negsuc, ◌||◌, is_some}
 use Rattle.std.specs.declared.cmp.Ordering.{Ordering}
 use Rattle.std.specs.declared.cmp.Ordering.TheVariants.{Less, Equal, Greater}
 use Rattle.expr_tree.specs.declared.sym.Sym.{Sym}
-use Rattle.expr_tree.specs.Tree.{Tree, integer, string, symbol, normal, Trees, nil, cons, elements, call}
+use Rattle.expr_tree.specs.Tree.{Tree, integer, string, symbol, normal, Trees, nil, cons}
 use Rattle.expr_tree.specs.Order.{same, same_symbol, text_cmp}
 use Rattle.expr_tree.specs.Shapes.{symbol_of}
 use Rattle.expr_tree.specs.Substitution.{among}
 use Rattle.semantics.specs.Builtin.{Builtin}
-use Rattle.semantics.specs.Names.{Names, name, is_name, is_call, items_of, make}
+use Rattle.semantics.specs.Names.{name, items_of, make}
 use Rattle.semantics.specs.Steps.{ordered}
 use Rattle.semantics.specs.Rule.{Rule, replaces, is_replaced, replace_in, insert_in, insert, remove, key_of}
 use Rattle.semantics.specs.Definitions.{Definition, Attributes, has, Share}
-use Rattle.semantics.specs.Program.{Prog, Done, Ask, Look, Put, Check, Moded, Seen}
+use Rattle.semantics.specs.Program.{Prog, Done, Look, Put, Seen}
 use Rattle.semantics.specs.Assign.{Form, ToHead, ToItems, ToTag, Place, Own, Down, Up, Target, is_wrapper, inner, inner_first, add_symbol, item_symbols, all_at, at_head, is_that, tag_place, places_in, places, asked_symbols, Why, refusal, attached}
 use Rattle.semantics.specs.Changes.{see_all, is_protected, protected_in, any_shared, unless_item, noting, attach_all, attaches_shared, assign, set, set_delayed, tag_set, tag_set_delayed, holders, holds, holding, any_protected, without_left, take_away, unset_from, unset, change_own, change, old_value, new_value, plus_int, step_by, change_with, subtract_from, unless_shared_symbol, write, cleared, nothing_left, clear, clear_all, with_attributes, without_attributes, named_attributes, change_attributes, protect, attributes_row}
-use Rattle.frame_laws.proofs.Inside.{both, Each, Opt, appended, In, Ins, AllIn, listed, called, items, symbol_in, in_order}
-use Rattle.frame_laws.proofs.Programs.{Realm, Has, HasAll, RuleIn, DefinedIn, SeenBoth, Both, done, ask, look, put, edit, check, moded, grows, same_world, later, later_in, later_all, later_rules, later_defined, Later, LaterGives, from_later, now, branch, option_both, itself, made}
+use Rattle.frame_laws.proofs.Inside.{both, Each, Opt, appended, items, symbol_in, in_order}
+use Rattle.frame_laws.proofs.Programs.{Realm, Has, HasAll, RuleIn, DefinedIn, SeenBoth, Both, done, ask, look, put, edit, check, moded, grows, same_world, later_in, later_defined, Later, from_later, now, branch, option_both, made}
 use Rattle.frame_laws.proofs.ControlRows.{failed_both, null_both}
 use Rattle.frame_laws.proofs.FirstSteps.{left_side_both}
 
@@ -169,7 +169,7 @@ module _ (R : Realm) where
   attach_all_both t w [] left right p q all l r next = next
   attach_all_both t w (a ∷ ts) left right p q all l r next = edit t all.0 (attached_in w a.place left right l r) (attach_all_both t w ts left right p q all.1 l r next)
 
-  refused_or : (w : World) (o : Option Why) {p q p' q' : Prog} → Both R w p p' → Both R w q q' → Both R w (elim o [ | None ↦ p | Some why ↦ q ]) (elim o [ | None ↦ p' | Some why ↦ q' ])
+  refused_or : (w : World) (o : Option Why) {p q p' q' : Prog} → Both R w p p' → Both R w q q' → Both R w (elim o [ None ↦ p | Some why ↦ q ]) (elim o [ None ↦ p' | Some why ↦ q' ])
   refused_or w None one other = one
   refused_or w (Some why) one other = other
 
@@ -181,8 +181,8 @@ module _ (R : Realm) where
       (λ es fs seens. unless_item_both w _ _ (attaches_same w (places names form left) seens)
       (λ unshared. subst
       (λ pr. Both R w
-        (elim (refusal names (protected_in es) form left) [ | None ↦ attach_all names (places names form left) left right p | Some why ↦ Done (name names Builtin.Failed) ])
-        (elim (refusal names pr form left) [ | None ↦ attach_all names (places names form left) left right q | Some why ↦ Done (name names Builtin.Failed) ]))
+      (elim (refusal names (protected_in es) form left) [ None ↦ attach_all names (places names form left) left right p | Some why ↦ Done (name names Builtin.Failed) ])
+      (elim (refusal names pr form left) [ None ↦ attach_all names (places names form left) left right q | Some why ↦ Done (name names Builtin.Failed) ]))
       (protected_same w seens)
       (refused_or w (refusal names (protected_in es) form left) (attach_all_both t w (places names form left) left right p q targets l r next) (failed_both R w t))))
 
@@ -341,8 +341,8 @@ module _ (R : Realm) where
   change_attributes_both t f keeps w p q (symbol s ∷ e ∷ []) next all = go (named_attributes names e)
     where
       go : (o : Option Attributes) → Both R w
-          (elim o [ | None ↦ p | Some a ↦ Look s (λ seen. unless_shared_symbol names (is_some seen.shared) (write names s (f a) seen.definition)) ])
-          (elim o [ | None ↦ q | Some a ↦ Look s (λ seen. unless_shared_symbol names (is_some seen.shared) (write names s (f a) seen.definition)) ])
+          (elim o [ None ↦ p | Some a ↦ Look s (λ seen. unless_shared_symbol names (is_some seen.shared) (write names s (f a) seen.definition)) ])
+          (elim o [ None ↦ q | Some a ↦ Look s (λ seen. unless_shared_symbol names (is_some seen.shared) (write names s (f a) seen.definition)) ])
       go None = now R w next
       go (Some a) = look all.0 (λ x y seen. unless_shared_or w (write names s (f a)) x y seen (write_both t w s (f a) x.definition (keeps a)))
   change_attributes_both t f keeps w p q _ next all = now R w next

@@ -1,16 +1,16 @@
 -- The control forms keep to a set of symbols that holds the table.
-use Rattle.std.proofs.Common.{◌≡◌, subst, ℕ, zero, suc, Bool, true, false, List, [], ◌∷◌, reverse, Option, Some, None}
+use Rattle.std.proofs.Common.{◌≡◌, subst, ℕ, zero, suc, List, [], ◌∷◌, reverse, Option, Some, None}
 use Rattle.std.specs.Prelude.{ℤ, pos, ◌+ℤ◌}
 use Rattle.std.specs.Ordering.{int_eq}
 use Rattle.expr_tree.specs.declared.sym.Sym.{Sym}
-use Rattle.expr_tree.specs.Tree.{Tree, integer, string, symbol, normal, Trees, nil, cons, elements, call}
+use Rattle.expr_tree.specs.Tree.{Tree, integer, string, symbol, normal, elements}
 use Rattle.expr_tree.specs.Order.{same}
 use Rattle.semantics.specs.Builtin.{Builtin}
-use Rattle.semantics.specs.Names.{Names, name, is_name, is_call, items_of, make}
+use Rattle.semantics.specs.Names.{is_name, is_call, items_of}
 use Rattle.semantics.specs.Definitions.{Share}
-use Rattle.semantics.specs.Program.{Prog, Done, Stops, Ask, Within, Look, Turn, Check, Moded, Local, Seen}
+use Rattle.semantics.specs.Program.{Prog, Done}
 use Rattle.semantics.specs.Control.{in_turn, by_truth, conditional, first_true, is_paired, which, connected, while_true, while, most_turns, Values, From, Each as Over, ask_number, up_to, steps_to, bound_or_list, unless_zero, unless_shared, iterator_parts, iterator, locals, over_numbers, over_list, over, inner_form, iterated, applied, nested, nest, until_fixed, fixed_point, folded, fold, selected, select, nested_list, nest_list, folded_list, fold_list, failed, null}
-use Rattle.frame_laws.proofs.Inside.{Each, Opt, reversed, In, AllIn, listed, called, items}
+use Rattle.frame_laws.proofs.Inside.{Each, Opt, reversed, listed, called, items}
 use Rattle.frame_laws.proofs.Programs.{Realm, Has, HasAll, LocalIn, Both, done, stop, ask, within, look, turn, check, moded, grows, same_world, later, later_in, later_all, Later, LaterGives, LaterAll, from_later, now, gives_later, all_later, branch, itself, made, gives_name}
 
 module _ (R : Realm) where

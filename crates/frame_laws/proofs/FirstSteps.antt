@@ -1,17 +1,15 @@
 -- Head, elements and splicing, and the left side of an assignment, keep to a set of symbols.
-use Rattle.std.proofs.Common.{◌≡◌, refl, subst, ℕ, Bool, true, false, List, [], ◌∷◌, ◌++◌, Option, Some, None}
+use Rattle.std.proofs.Common.{subst, List, [], ◌∷◌, ◌++◌, Some, None}
 use Rattle.std.specs.Prelude.{◌||◌}
-use Rattle.expr_tree.specs.declared.sym.Sym.{Sym}
-use Rattle.expr_tree.specs.Tree.{Tree, integer, string, symbol, normal, Trees, nil, cons, elements, call}
+use Rattle.expr_tree.specs.Tree.{Tree, integer, string, symbol, normal, elements, call}
 use Rattle.semantics.specs.Builtin.{Builtin}
-use Rattle.semantics.specs.Names.{Names, make}
-use Rattle.semantics.specs.Steps as Steps
+use Rattle.semantics.specs.Names.{make}
 use Rattle.semantics.specs.Definitions.{Attributes, has}
-use Rattle.semantics.specs.Program.{Prog, Done, Ask, Look, Check}
+use Rattle.semantics.specs.Program.{Prog}
 use Rattle.semantics.specs.Assemble.{attributes_of, holds_first, holds_rest, is_asked, ask_rest, ask_items, spliced, first_steps, flattened, threaded, sorted, check_all, left_side}
 use Rattle.frame_laws.proofs.Inside as Inside
 use Rattle.frame_laws.proofs.Inside.{both, Each, Opt, appended, In, AllIn, listed, called}
-use Rattle.frame_laws.proofs.Programs.{Realm, Has, HasAll, Both, ask, look, check, grows, same_world, later, later_in, later_all, Later, LaterGives, LaterAll, all_later, branch, option_both, made}
+use Rattle.frame_laws.proofs.Programs.{Realm, Has, HasAll, Both, ask, look, check, grows, same_world, later, later_in, later_all, LaterGives, LaterAll, all_later, branch, option_both, made}
 
 module _ (R : Realm) where
   open R use {names, World, Member, Table, knows, tabled}
@@ -71,8 +69,8 @@ module _ (R : Realm) where
 
   left_normal : (w : World) (h : Tree) (a : Attributes) (es : List Tree) (k l : Tree → Prog) → Has R w h → HasAll R w es → ((e : Tree) → Has R w e → Both R w (k e) (l e))
       → Both R w
-        (elim (threaded names h a (flattened h a es)) [ | Some each ↦ check_all each (k (make names Builtin.List each)) | None ↦ k (call h (sorted a (flattened h a es))) ])
-        (elim (threaded names h a (flattened h a es)) [ | Some each ↦ check_all each (l (make names Builtin.List each)) | None ↦ l (call h (sorted a (flattened h a es))) ])
+      (elim (threaded names h a (flattened h a es)) [ Some each ↦ check_all each (k (make names Builtin.List each)) | None ↦ k (call h (sorted a (flattened h a es))) ])
+      (elim (threaded names h a (flattened h a es)) [ Some each ↦ check_all each (l (make names Builtin.List each)) | None ↦ l (call h (sorted a (flattened h a es))) ])
   left_normal w h a es k l one all next =
       let flat = flattened_in w h a es all in
       option_both R w (ThreadedIn w) (threaded names h a (flattened h a es)) (threaded_in w h a (flattened h a es) one flat)

@@ -1,20 +1,17 @@
 -- One induction: evaluations of an expression of a set, from definitions that agree on it, end alike unless `used` becomes true.
 use Rattle.std.proofs.Common.{◌≡◌, refl, ap, subst, ℕ, zero, suc, ◌+◌, Bool, true, false, ltb, List, Option, Some, None, true≢false, sym}
 use Rattle.std.specs.Prelude.{◌==◌}
-use Rattle.expr_tree.specs.declared.sym.Sym.{Sym}
 use Rattle.expr_tree.specs.declared.limits.Limits.{Limits}
 use Rattle.expr_tree.specs.declared.limits.Stop.{Stop}
 use Rattle.expr_tree.specs.Tree.{Tree}
 use Rattle.expr_tree.specs.Order.{same}
-use Rattle.semantics.specs.Definitions.{Definition, Definitions, Shared}
-use Rattle.semantics.specs.Program.{Prog, Done, Stops, Quits, Ask, Within, Look, Put, Fresh, Turn, Check, Moded, Local, Mode, Seen}
-use Rattle.semantics.specs.Pass.{pass}
-use Rattle.semantics.specs.Play.{Setting, State, End, Value, Stopped, Quit, Closed, Starved, Play, Over, Evaluator, ending, on_value, leaving_locals, too_large, with_step, with_locals, without_locals, unless_stopped, stepped, settled, if_number_left, now_used, run, changed, judged, passes, eval_at, seen, written, with_definitions, last_number, after_number}
+use Rattle.semantics.specs.Definitions.{Definitions, Shared}
+use Rattle.semantics.specs.Program.{Prog, Mode}
+use Rattle.semantics.specs.Play.{Setting, State, End, Value, Stopped, Quit, Closed, Starved, Play, Over, Evaluator, ending, on_value, leaving_locals, too_large, with_step, with_locals, without_locals, unless_stopped, stepped, settled, if_number_left, now_used, run, changed, judged, passes, eval_at, seen, with_definitions, last_number, after_number}
 use Rattle.language_laws.proofs.Modes.{Used, ended, Sticky, StickyEnd, ending-sticks, on_value-sticks, run-sticks, judged-sticks, passes-sticks, eval_at-sticks}
-use Rattle.frame_laws.proofs.Inside.{Each}
-use Rattle.frame_laws.proofs.Programs.{Origin, before, new, Realm, Has, DefinedIn, LocalIn, Both, done, stop, leaves, ask, within, look, put, edit, fresh, turn, check, moded, grows, same_world, later, later_in}
+use Rattle.frame_laws.proofs.Programs.{Realm, Has, Both, done, stop, leaves, ask, within, look, put, edit, fresh, turn, check, moded, grows, same_world, later}
 use Rattle.frame_laws.proofs.Passes.{pass_both}
-use Rattle.frame_laws.proofs.Agreeing.{Agree, Unshared, written_agree, seen_both, locals_agree, backs_agree, stays_in, none_seen}
+use Rattle.frame_laws.proofs.Agreeing.{Agree, written_agree, seen_both, locals_agree, backs_agree, stays_in, none_seen}
 
 module _ (R : Realm) (shared : List Shared) (shown : Tree → List ℕ) (mode : Mode) (kernel : ℕ) (limits : Limits) where
   open R use {names, World, Member, Table}
@@ -131,8 +128,8 @@ module _ (R : Realm) (shared : List Shared) (shown : Tree → List ℕ) (mode : 
       run_follows ev sticky follow next _ _
       (record {
         definitions = written_agree R shared w w (same_world R w) a (stays_in R shared w a) s.definitions t.definitions
-          (f (seen names s.definitions a).definition) (f (seen names t.definitions a).definition) states.definitions
-          (λ free. (ap f (seen_alike.same (none_seen R shared w s.definitions t.definitions a states.definitions free)), keeps (seen names s.definitions a).definition (seen_alike.defined (none_seen R shared w s.definitions t.definitions a states.definitions free))));
+            (f (seen names s.definitions a).definition) (f (seen names t.definitions a).definition) states.definitions
+            (λ free. (ap f (seen_alike.same (none_seen R shared w s.definitions t.definitions a states.definitions free)), keeps (seen names s.definitions a).definition (seen_alike.defined (none_seen R shared w s.definitions t.definitions a states.definitions free))));
         steps = states.steps;
         used = states.used;
       })

@@ -1,5 +1,5 @@
 -- The law of the frame: a closed set with what Module makes is a set that evaluations keep to.
-use Rattle.std.proofs.Common.{◌≡◌, refl, sym, ap, subst, ◌∙◌, ℕ, Bool, true, false, List, [], ◌∷◌, ◌++◌, Option, Some, None, is_none, T, true≢false, eqb-true}
+use Rattle.std.proofs.Common.{◌≡◌, refl, sym, ap, subst, ◌∙◌, Bool, true, false, List, [], ◌∷◌, ◌++◌, Option, Some, None, true≢false, eqb-true}
 use Rattle.std.specs.Prelude.{◌&&◌, ◌||◌, ◌==◌}
 use Rattle.expr_tree.proofs.Same.{symbol_eq-Decides}
 use Rattle.expr_tree.specs.declared.sym.Sym.{Sym}
@@ -10,8 +10,8 @@ use Rattle.semantics.specs.Builtin.{Builtin}
 use Rattle.semantics.specs.Names.{Names, IsNames, known, is_known, role_of}
 use Rattle.semantics.specs.Rule.{Rule}
 use Rattle.semantics.specs.Definitions.{Definition, Definitions, Shared, shared_as, stored}
-use Rattle.semantics.specs.Play.{Setting, State, End, Reply, Play, Over, Calls, eval_at, whole, begun}
-use Rattle.semantics.specs.Eval.{Event, Outcome, Ended, Evaluation, if_matched, over, eval, same_call}
+use Rattle.semantics.specs.Play.{Setting, Play, whole, begun}
+use Rattle.semantics.specs.Eval.{Event, Evaluation, if_matched, over, eval, same_call}
 use Rattle.journal.specs.Places.{is_some}
 use Rattle.journal.specs.Closure.{symbols_of, symbols_of_items, symbols_of_own, symbols_of_rules, symbols_of_definition, is_row, is_shared}
 use Rattle.language_laws.proofs.Modes.{Used, ended, called}
@@ -19,7 +19,7 @@ use Rattle.frame_laws.specs.Frame.{IsClosed, AgreeOn, StandsIn, WentAlike, Membe
 use Rattle.frame_laws.proofs.Inside.{Each, Opt, In, Ins}
 use Rattle.frame_laws.proofs.Programs.{Origin, before, new, Realm, DefinedIn, grows}
 use Rattle.frame_laws.proofs.Agreeing.{Agree}
-use Rattle.frame_laws.proofs.Following.{States, Follows, quiet, used, eval_at_follows}
+use Rattle.frame_laws.proofs.Following.{Follows, quiet, used, eval_at_follows}
 
 -- ---- members of lists of symbols
 
@@ -79,9 +79,10 @@ own_stands C (Some e) all = stands_in C e all
 rules_stand : (C : Sym → Type 0) (rs : List Rule) → AllAmong C (symbols_of_rules rs) → Each (λ r. In C r.left × In C r.right) rs
 rules_stand C [] all = tt
 rules_stand C (r ∷ rs) all =
-    let rest = second_part C (symbols_of r.left) (symbols_of r.right ++ symbols_of_rules rs) all in
-    ((stands_in C r.left (first_part C (symbols_of r.left) (symbols_of r.right ++ symbols_of_rules rs) all), stands_in C r.right (first_part C (symbols_of r.right) (symbols_of_rules rs) rest)),
-    rules_stand C rs (second_part C (symbols_of r.right) (symbols_of_rules rs) rest))
+    let rest = second_part C (symbols_of r.left) (symbols_of r.right ++ symbols_of_rules rs) all in (
+      (stands_in C r.left (first_part C (symbols_of r.left) (symbols_of r.right ++ symbols_of_rules rs) all), stands_in C r.right (first_part C (symbols_of r.right) (symbols_of_rules rs) rest)),
+      rules_stand C rs (second_part C (symbols_of r.right) (symbols_of_rules rs) rest),
+    )
 
 -- ---- the sets
 
@@ -174,7 +175,6 @@ module _ (names : Names) (is : IsNames names) (C : Sym → Type 0) (closed : (s 
         number = one.number;
         same = λ s s_in free. one.same s (g s s_in) (ap (λ l. shared_as l s) (sym one.first) ∙ from_unshared (shared_as d.shared s) free);
       }
-
   -- ---- along a list
 
 used_over : {p : Play} → Used p → (events : List Event) → (over p events).used ≡ true
@@ -223,7 +223,7 @@ closed_turned : (names : Names) (C : Sym → Type 0) (d c : Definitions) → IsC
 closed_turned names C d c close one =
     record {
       followed = λ s t s_in free e.
-        close.followed s t s_in (shared_same names C d c one s free) (subst (λ x. among t (symbols_of_definition x) ≡ true) (sym (one.same s s_in (shared_same names C d c one s free))) e);
+          close.followed s t s_in (shared_same names C d c one s free) (subst (λ x. among t (symbols_of_definition x) ≡ true) (sym (one.same s s_in (shared_same names C d c one s free))) e);
       table = close.table;
     }
 

@@ -1,7 +1,7 @@
 -- Expressions whose symbols are all members of a set, and what keeps to it: lists, the steps of a pass, putting in place.
-use Rattle.std.proofs.Common.{◌≡◌, refl, sym, subst, ℕ, zero, suc, Bool, true, false, cond, List, [], ◌∷◌, ◌++◌, map, length, reverse, take, drop, replicate, Option, Some, None, true≢false}
+use Rattle.std.proofs.Common.{◌≡◌, refl, sym, ℕ, zero, suc, Bool, true, false, cond, List, [], ◌∷◌, ◌++◌, map, reverse, take, drop, replicate, Option, Some, None, true≢false}
 use mathlib.Core.List.{reverse_aux}
-use Rattle.std.specs.Prelude.{◌+◌, if◌then◌else◌}
+use Rattle.std.specs.Prelude.{if◌then◌else◌}
 use Rattle.std.specs.Ordering.{is_le}
 use Rattle.expr_tree.specs.declared.sym.Sym.{Sym}
 use Rattle.expr_tree.specs.Tree.{Tree, integer, string, symbol, normal, Trees, nil, cons, elements, trees, call}
@@ -248,9 +248,10 @@ module _ (C : Sym → Type 0) where
       put_in_place_in b (integer n) all one = tt
       put_in_place_in b (string t) all one = tt
       put_in_place_in b (symbol s) all one = value_or_in s (value_of b s) one (value_in b s all)
-      put_in_place_in b (normal h es) all one =
-          (put_in_place_in (without (bound_in (binders names) h (elements es)) b) h (without_in (bound_in (binders names) h (elements es)) b all) one.0,
-          put_in_items_in (without (bound_in (binders names) h (elements es)) b) es (without_in (bound_in (binders names) h (elements es)) b all) one.1)
+      put_in_place_in b (normal h es) all one = (
+        put_in_place_in (without (bound_in (binders names) h (elements es)) b) h (without_in (bound_in (binders names) h (elements es)) b all) one.0,
+        put_in_items_in (without (bound_in (binders names) h (elements es)) b) es (without_in (bound_in (binders names) h (elements es)) b all) one.1,
+      )
 
       pub put_in_items_in : (b : Binding) (es : Trees) → AllBound b → Ins es → Ins (put_in_items (binders names) b es)
       put_in_items_in b nil all one = tt

@@ -1,17 +1,17 @@
 -- Rows of lists: each symbol of a result stands in the items or in the table.
-use Rattle.std.proofs.Common.{ℕ, zero, suc, Bool, true, false, List, [], ◌∷◌, ◌++◌, map, length, reverse, take, drop, replicate, Option, Some, None}
-use Rattle.std.specs.Prelude.{ℤ, pos, negsuc, ◌+ℤ◌, ◌+◌, leb, ◌&&◌, ◌==◌}
+use Rattle.std.proofs.Common.{ℕ, zero, suc, List, [], ◌∷◌, ◌++◌, map, length, reverse, take, drop, Option, Some, None}
+use Rattle.std.specs.Prelude.{ℤ, pos, negsuc, ◌+ℤ◌, ◌+◌, leb}
 use Rattle.std.specs.Ordering.{int_eq}
 use Rattle.expr_tree.specs.declared.sym.Sym.{Sym}
-use Rattle.expr_tree.specs.Tree.{Tree, integer, string, symbol, normal, Trees, nil, cons, elements, trees, call}
+use Rattle.expr_tree.specs.Tree.{Tree, integer, string, symbol, normal, Trees, nil, cons, elements, call}
 use Rattle.expr_tree.specs.Order.{same}
 use Rattle.semantics.specs.Builtin.{Builtin}
-use Rattle.semantics.specs.Names.{Names, known, is_name, is_call, items_of, make, truth}
+use Rattle.semantics.specs.Names.{Names, known, is_name, is_call, items_of}
 use Rattle.semantics.specs.Steps.{ordered}
-use Rattle.semantics.specs.Worked.{Worked, Stays, Gives, TooWide}
+use Rattle.semantics.specs.Worked.{Stays, Gives}
 use Rattle.semantics.specs.Lists as Lists
 use Rattle.semantics.specs.Table.{ordered_q}
-use Rattle.frame_laws.proofs.Inside.{both, Each, Opt, perhaps, appended, mapped, reversed, taken, dropped, replicated, In, Ins, AllIn, listed, called, items, packed, in_order}
+use Rattle.frame_laws.proofs.Inside.{both, Each, Opt, perhaps, appended, mapped, reversed, taken, dropped, replicated, In, Ins, AllIn, listed, called, items, in_order}
 use Rattle.frame_laws.proofs.NumberRows.{Fine, makes, true_or_false}
 
 module _ (C : Sym → Type 0) where

@@ -2,12 +2,12 @@
 use Rattle.std.proofs.Common.{◌≡◌, refl, sym, ℕ, zero, suc, Bool, true, false, List, [], ◌∷◌, ◌++◌, map, length, Option, Some, None, true≢false}
 use Rattle.std.specs.Prelude.{◌&&◌}
 use Rattle.expr_tree.specs.declared.sym.Sym.{Sym}
-use Rattle.expr_tree.specs.Tree.{Tree, integer, string, symbol, normal, Trees, nil, cons, elements, call}
+use Rattle.expr_tree.specs.Tree.{Tree, integer, string, symbol, normal, Trees, nil, cons, elements}
 use Rattle.semantics.specs.Builtin.{Builtin}
 use Rattle.semantics.specs.Names.{Names, known, is_known, is_name}
 use Rattle.expr_tree.specs.Substitution.{Binding, value_of}
 use Rattle.semantics.specs.Match.{Guard, Test, Cond, Found, nothing_found, Matching, Taken, also_taken, also_left, joined, runs, choices, choices_up_to, ways, is_single, wrapped, same_run, bind, guarded, when, Kind, blank, sequence, null_sequence, pattern, test, condition, alternatives, hold, verbatim, other, kind, Matcher, Element, literal, match_items, match_normal, match_any, match_named, construct, is_construct, how_of, matcher, matchers, matches, asked, heads, heads_in, guard_expression, is_one, is_some_run, have_head, tree_list}
-use Rattle.frame_laws.proofs.Inside.{both, chosen, Each, Opt, appended, mapped, In, Ins, AllIn, listed, called, name_tabled, AllBound, put_in_place_in}
+use Rattle.frame_laws.proofs.Inside.{both, chosen, Each, appended, mapped, In, Ins, AllIn, listed, called, name_tabled, AllBound, put_in_place_in}
 
 pub joined_each : {A : Type 0} (P : A → Type 0) (xss : List (List A)) → Each (Each P) xss → Each P (joined xss)
 joined_each P [] all = tt
@@ -59,9 +59,9 @@ module _ (C : Sym → Type 0) (names : Names) (Table : Type 0) (knows : Table �
   bind_in s run f t all found = go (value_of f.binding s)
     where
       go : (o : Option (List Tree)) → Each FoundIn (elim o [
-            | None ↦ record { binding = f.binding ++ (s, run) ∷ []; guards = f.guards } ∷ []
-            | Some old ↦ elim (same_run old run) [ true ↦ f ∷ [] | false ↦ [] ]
-          ])
+        | None ↦ record { binding = f.binding ++ (s, run) ∷ []; guards = f.guards } ∷ []
+        | Some old ↦ elim (same_run old run) [ true ↦ f ∷ [] | false ↦ [] ]
+      ])
       go None = ((appended _ f.binding ((s, run) ∷ []) found.0 ((t, all), tt), found.1), tt)
       go (Some old) = both (Each FoundIn) (same_run old run) (found, tt) tt
 

@@ -4,7 +4,7 @@ use Rattle.std.specs.Prelude.{leb, ◌&&◌, not}
 use Rattle.expr_tree.specs.declared.sym.Sym.{Sym}
 use Rattle.expr_tree.specs.Tree.{Tree, normal}
 use Rattle.semantics.specs.Builtin.{Builtin}
-use Rattle.semantics.specs.Names.{Names, is_call, items_of, make}
+use Rattle.semantics.specs.Names.{is_call, items_of}
 use Rattle.semantics.specs.Program.{Prog, Moded, Service}
 use Rattle.semantics.specs.Control.{failed}
 use Rattle.semantics.specs.Scoping.{symbols_in}
@@ -18,8 +18,8 @@ module _ (R : Realm) where
   critical_section_both w p q (locks ∷ body ∷ []) next = go (is_call names Builtin.List locks) (symbols_in (items_of locks))
     where
       go : (b : Bool) (o : Option (List Sym)) → Both R w
-          (elim b [ | false ↦ p | true ↦ elim o [ | None ↦ p | Some ss ↦ Moded (λ mode kernel. elim mode [ Service ↦ failed names | _ ↦ section ss body ]) ] ])
-          (elim b [ | false ↦ q | true ↦ elim o [ | None ↦ q | Some ss ↦ Moded (λ mode kernel. elim mode [ Service ↦ failed names | _ ↦ section ss body ]) ] ])
+          (elim b [ false ↦ p | true ↦ elim o [ None ↦ p | Some ss ↦ Moded (λ mode kernel. elim mode [ Service ↦ failed names | _ ↦ section ss body ]) ] ])
+          (elim b [ false ↦ q | true ↦ elim o [ None ↦ q | Some ss ↦ Moded (λ mode kernel. elim mode [ Service ↦ failed names | _ ↦ section ss body ]) ] ])
       go false o = now R w next
       go true None = now R w next
       go true (Some ss) = moded

@@ -1,19 +1,18 @@
 -- Rows of numbers, tests and strings: each symbol of a result stands in the items or in the table.
-use Rattle.std.proofs.Common.{ℕ, zero, suc, Bool, true, false, List, [], ◌∷◌, ◌++◌, map, length, reverse, Option, Some, None}
-use Rattle.std.specs.Prelude.{ℤ, pos, negsuc, ◌+ℤ◌, ◌*ℤ◌, ◌&&◌, ltb, ◌==◌, nat_abs, not, ◌^◌, neg_ℤ, chars, encode_utf8, ◌-ℤ◌}
+use Rattle.std.proofs.Common.{ℕ, zero, suc, Bool, true, false, List, [], ◌∷◌, map, Option, Some, None}
+use Rattle.std.specs.Prelude.{ℤ, pos, negsuc, ◌*ℤ◌, ◌&&◌, ltb, ◌==◌, nat_abs, not, ◌^◌, neg_ℤ, chars, encode_utf8, ◌-ℤ◌}
 use Rattle.std.specs.Ordering.{int_eq}
 use Rattle.expr_tree.specs.declared.sym.Sym.{Sym}
 use Rattle.expr_tree.specs.Limits.{in_range}
-use Rattle.expr_tree.specs.Tree.{Tree, integer, string, symbol, normal, Trees, nil, cons, elements, trees, call}
+use Rattle.expr_tree.specs.Tree.{Tree, integer, string, symbol, normal, nil, cons, trees}
 use Rattle.expr_tree.specs.Order.{same}
 use Rattle.semantics.specs.Builtin.{Builtin}
 use Rattle.semantics.specs.Names.{Names, known, is_name, is_call, items_of, make, truth}
-use Rattle.semantics.specs.Steps.{ordered}
 use Rattle.semantics.specs.Worked.{Worked, Stays, Gives, TooWide, gives_int, all_in_range}
-use Rattle.semantics.specs.Numbers.{Part, add_part, Gathered, numbers_of, written, assembled, once, term_in, term, times, write_term, gather_sum, sum_of, plus, factor_in, factor, write_factor, gather_product, product_of, product, is_even, int_power, integer_power, power_of, power, quotient_down, quotient, modulo, parity, minus, subtract, divide, absolute, sign, common_divisor, gcd_of, gcd, factorial_of, factorial, all_integers, best, best_of, extreme}
+use Rattle.semantics.specs.Numbers.{Part, add_part, Gathered, numbers_of, written, assembled, term_in, term, times, write_term, gather_sum, sum_of, plus, factor_in, factor, write_factor, gather_product, product_of, product, is_even, int_power, integer_power, power_of, power, quotient_down, quotient, modulo, parity, minus, subtract, divide, absolute, sign, gcd_of, gcd, factorial, all_integers, best_of, extreme}
 use Rattle.semantics.specs.Tests.{all_same, some_same, all_data, neighbours_differ, equal, unequal, integers, chain, compared, negated, asked_of_one}
 use Rattle.semantics.specs.Strings.{join_texts, string_join, string_length, characters, string_reverse}
-use Rattle.frame_laws.proofs.Inside.{both, Each, Opt, perhaps, In, Ins, AllIn, items, packed, in_order}
+use Rattle.frame_laws.proofs.Inside.{both, Each, Opt, perhaps, In, AllIn, items, packed, in_order}
 
 module _ (C : Sym → Type 0) where
   -- what a row gives

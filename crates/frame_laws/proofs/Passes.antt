@@ -1,23 +1,21 @@
 -- One pass keeps to a set of symbols.
-use Rattle.std.proofs.Common.{◌≡◌, refl, sym, subst, Bool, true, false, List, [], ◌∷◌, Option, Some, None}
+use Rattle.std.proofs.Common.{◌≡◌, refl, subst, true, false, List, [], ◌∷◌, Option, Some, None}
 use Rattle.std.specs.Prelude.{◌&&◌, ◌||◌, not}
 use Rattle.expr_tree.specs.declared.sym.Sym.{Sym}
-use Rattle.expr_tree.specs.Tree.{Tree, integer, string, symbol, normal, Trees, nil, cons, elements, call}
+use Rattle.expr_tree.specs.Tree.{Tree, integer, string, symbol, normal, elements, call}
 use Rattle.expr_tree.specs.Shapes.{symbol_of}
 use Rattle.semantics.specs.Builtin.{Builtin}
-use Rattle.semantics.specs.Names.{Names, is_known, is_name, make, role_of}
+use Rattle.semantics.specs.Names.{is_known, is_name, role_of}
 use Rattle.semantics.specs.Steps.{strip, has_wrapper}
 use Rattle.semantics.specs.Definitions.{Definition, Attributes, Share, Variable, Function, has}
-use Rattle.semantics.specs.Program.{Prog, Done, Look, Moded, Seen}
+use Rattle.semantics.specs.Program.{Prog, Done, Seen}
 use Rattle.semantics.specs.Attempt.{try_rules}
-use Rattle.semantics.specs.Assemble.{first_steps, flattened, threaded, sorted, check_all}
-use Rattle.semantics.specs.Scoping.{apply_function}
+use Rattle.semantics.specs.Assemble.{flattened, threaded, sorted}
 use Rattle.semantics.specs.Sections.{accessed, access_or, unless_access, changes_rule, changes_value, same_share}
-use Rattle.semantics.specs.Table.{row}
-use Rattle.semantics.specs.Pass.{marked, symbol_rules, up_rules, row_or_stay, built_in, down_rules, last_steps, left_standing, later_steps, symbol_row, own_value, symbol_pass, pass}
+use Rattle.semantics.specs.Pass.{marked, symbol_rules, up_rules, row_or_stay, built_in, down_rules, last_steps, left_standing, later_steps, symbol_row, symbol_pass, pass}
 use Rattle.frame_laws.proofs.Inside as Inside
 use Rattle.frame_laws.proofs.Inside.{both, Each, Opt, In, AllIn, listed, called, name_tabled}
-use Rattle.frame_laws.proofs.Programs.{Realm, Has, HasAll, DefinedIn, SeenBoth, Both, done, look, check, moded, grows, same_world, later, later_in, later_all, Later, from_later, now, branch, branch_if, option_both, itself, made, try_rules_both}
+use Rattle.frame_laws.proofs.Programs.{Realm, Has, HasAll, DefinedIn, SeenBoth, Both, done, look, moded, later_in, later_all, Later, from_later, now, branch, branch_if, option_both, itself, made, try_rules_both}
 use Rattle.frame_laws.proofs.FirstSteps.{first_steps_both, flattened_in, ThreadedIn, threaded_in, sorted_in, check_all_both}
 use Rattle.frame_laws.proofs.ScopeRows.{apply_function_both}
 use Rattle.frame_laws.proofs.Rows.{row_both}

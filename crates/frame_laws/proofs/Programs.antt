@@ -1,19 +1,19 @@
 -- Programs that keep to a set of symbols, and the programs of a pass: trials of rules, the first steps.
-use Rattle.std.proofs.Common.{◌≡◌, refl, sym, ap, subst, ℕ, Bool, true, false, List, [], ◌∷◌, ◌++◌, map, Option, Some, None}
+use Rattle.std.proofs.Common.{◌≡◌, refl, subst, ℕ, Bool, true, false, List, [], ◌∷◌, ◌++◌, map, Option, Some, None}
 use Rattle.expr_tree.specs.declared.sym.Sym.{Sym}
 use Rattle.expr_tree.specs.declared.limits.Stop.{Stop}
-use Rattle.expr_tree.specs.Tree.{Tree, integer, string, symbol, normal, Trees, nil, cons, elements, call}
+use Rattle.expr_tree.specs.Tree.{Tree, integer, string, symbol, normal, Trees, nil, cons}
 use Rattle.expr_tree.specs.Order.{same_symbol}
 use Rattle.semantics.specs.Builtin.{Builtin}
 use Rattle.semantics.specs.Names.{Names, known, is_known, is_name, is_call, items_of, make, role_of}
 use Rattle.expr_tree.specs.Substitution.{Binding}
 use Rattle.semantics.specs.InPlace.{put_in_place}
 use Rattle.semantics.specs.Rule.{Rule, condition_in, result_in, condition_of, result_of}
-use Rattle.semantics.specs.Match.{Guard, Test, Cond, Found, Matching, matches, heads, guard_expression}
-use Rattle.semantics.specs.Definitions.{Attributes, Definition, Share, has}
+use Rattle.semantics.specs.Match.{Guard, Test, Cond, Found, matches, heads, guard_expression}
+use Rattle.semantics.specs.Definitions.{Definition, has}
 use Rattle.semantics.specs.Program.{Prog, Done, Stops, Quits, Ask, Within, Look, Put, Fresh, Turn, Check, Moded, Local, Mode, Seen, look_all}
 use Rattle.semantics.specs.Attempt.{told, try_guards, try_binding, try_bindings, try_rule, try_rules}
-use Rattle.frame_laws.proofs.Inside.{both, chosen, Each, Opt, appended, mapped, In, Ins, AllIn, items, packed, called, AllBound, put_in_place_in}
+use Rattle.frame_laws.proofs.Inside.{both, Each, Opt, appended, mapped, In, Ins, AllIn, items, packed, AllBound, put_in_place_in}
 use Rattle.frame_laws.proofs.Matching.{GuardIn, FoundIn, matches_in, heads_inside, guard_in}
 
 -- one of two

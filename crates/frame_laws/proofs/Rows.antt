@@ -1,6 +1,6 @@
 -- Every row of the table with its lemma. A row that is a function of its items alone owes that each symbol of its result stands in the items
 -- or in the table; the others owe that their programs keep to a set that holds the table.
-use Rattle.std.proofs.Common.{Bool, true, false, List, [], ◌∷◌}
+use Rattle.std.proofs.Common.{true, false, List, [], ◌∷◌}
 use Rattle.std.specs.Prelude.{pos, negsuc, int_lt, int_le}
 use Rattle.expr_tree.specs.declared.sym.Sym.{Sym}
 use Rattle.expr_tree.specs.Tree.{Tree}
@@ -18,7 +18,7 @@ use Rattle.frame_laws.proofs.Inside.{AllIn}
 use Rattle.frame_laws.proofs.NumberRows as N
 use Rattle.frame_laws.proofs.NumberRows.{Fine}
 use Rattle.frame_laws.proofs.ListRows as L
-use Rattle.frame_laws.proofs.Programs.{Realm, Has, HasAll, Both, done, stop, Later, now, made}
+use Rattle.frame_laws.proofs.Programs.{Realm, HasAll, Both, done, stop, Later, now, made}
 use Rattle.frame_laws.proofs.ControlRows as Control
 use Rattle.frame_laws.proofs.ScopeRows as Scope
 use Rattle.frame_laws.proofs.ChangeRows as Change

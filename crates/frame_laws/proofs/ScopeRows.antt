@@ -1,22 +1,20 @@
 -- Module, Block, With, the application of a Function, replacing and the rows that ask for a match keep to a set of symbols that holds the table.
-use Rattle.std.proofs.Common.{◌≡◌, ℕ, zero, suc, Bool, true, false, List, [], ◌∷◌, ◌++◌, reverse, length, drop, Option, Some, None}
-use Rattle.std.specs.Prelude.{ℤ, pos, negsuc, ◌||◌, ltb}
+use Rattle.std.proofs.Common.{ℕ, zero, suc, Bool, true, false, List, [], ◌∷◌, ◌++◌, reverse, length, drop, Option, Some, None}
+use Rattle.std.specs.Prelude.{◌||◌, ltb}
 use Rattle.expr_tree.specs.declared.sym.Sym.{Sym}
-use Rattle.expr_tree.specs.declared.limits.Stop.{Stop}
-use Rattle.expr_tree.specs.Tree.{Tree, integer, string, symbol, normal, Trees, nil, cons, elements, call}
+use Rattle.expr_tree.specs.Tree.{Tree, integer, string, symbol, normal, Trees, nil, cons, elements}
 use Rattle.expr_tree.specs.Order.{same}
 use Rattle.semantics.specs.Builtin.{Builtin}
-use Rattle.semantics.specs.Names.{Names, is_name, is_call, items_of, truth}
+use Rattle.semantics.specs.Names.{is_call, items_of, truth}
 use Rattle.expr_tree.specs.Substitution.{Binding}
-use Rattle.semantics.specs.InPlace.{put_in_place, nth, slot_number, filled, slot_value, is_slot, is_pure_function, fill_slots, fill_in_items, as_one}
+use Rattle.semantics.specs.InPlace.{put_in_place, nth, slot_number, filled, slot_value, is_slot, is_pure_function, fill_slots, fill_in_items}
 use Rattle.semantics.specs.Rule.{Rule}
-use Rattle.semantics.specs.Program.{Prog, Done, Stops, Ask, Within, Put, Fresh, Moded, Local}
-use Rattle.semantics.specs.Attempt.{try_rules}
-use Rattle.semantics.specs.Scoping.{plain_local, valued_local, local_of, locals_of, symbols_of, differ, bases_differ, ask_values, with_locals, renamed, renaming, with_number, make_all, module_form, unless_any_shared, block_form, values_in, with_form, symbols_in, paired, parameters, put_arguments, apply_function}
+use Rattle.semantics.specs.Program.{Prog, Done, Local}
+use Rattle.semantics.specs.Scoping.{plain_local, valued_local, local_of, locals_of, symbols_of, differ, ask_values, with_locals, renamed, renaming, with_number, make_all, module_form, unless_any_shared, block_form, values_in, with_form, paired, parameters, put_arguments, apply_function}
 use Rattle.semantics.specs.Replace.{rule_in, rule_of, rules_in, rule_set, replaced, replaced_items, replace_all, rounds, replace_repeated, asks, match_q, member, member_q, cases_of, case_rule, matching, cases, count_of, count_row, free, free_items, free_q}
-use Rattle.frame_laws.proofs.Inside.{both, Each, Opt, perhaps, appended, reversed, dropped, In, Ins, AllIn, listed, called, items, one_in}
-use Rattle.frame_laws.proofs.Programs.{Realm, Has, HasAll, LocalIn, RuleIn, DefinedIn, BoundIn, Both, done, stop, ask, within, look, put, fresh, turn, check, moded, grows, same_world, later, later_in, later_ins, later_all, later_opt, later_rules, later_locals, later_symbols, Later, LaterGives, from_later, now, gives_later, branch, branch_if, option_both, itself, made, placed, try_rules_both}
-use Rattle.frame_laws.proofs.ControlRows.{if_shared, failed_both}
+use Rattle.frame_laws.proofs.Inside.{both, Each, Opt, perhaps, appended, reversed, dropped, Ins, listed, called, items, one_in}
+use Rattle.frame_laws.proofs.Programs.{Realm, Has, HasAll, LocalIn, RuleIn, BoundIn, Both, done, stop, ask, within, look, put, fresh, turn, check, moded, grows, same_world, later, later_in, later_ins, later_all, later_rules, later_locals, Later, LaterGives, from_later, now, branch, option_both, itself, placed, try_rules_both}
+use Rattle.frame_laws.proofs.ControlRows.{if_shared}
 
 module _ (R : Realm) where
   open R use {names, World, Member, Table, knows, tabled}
