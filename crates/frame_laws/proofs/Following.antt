@@ -13,7 +13,7 @@ use Rattle.frame_laws.proofs.Programs.{Realm, Has, Both, done, stop, leaves, ask
 use Rattle.frame_laws.proofs.Passes.{pass_both}
 use Rattle.frame_laws.proofs.Agreeing.{Agree, written_agree, seen_both, locals_agree, backs_agree, stays_in, none_seen}
 
-module _ (R : Realm) (shared : List Shared) (shown : Tree → List ℕ) (mode : Mode) (kernel : ℕ) (limits : Limits) where
+module _ (R : Realm) (may : (x : R.World) → R.Numbered x) (shared : List Shared) (shown : Tree → List ℕ) (mode : Mode) (kernel : ℕ) (limits : Limits) where
   open R use {names, World, Member, Table}
 
   abbrev pub set : Setting
@@ -133,7 +133,7 @@ module _ (R : Realm) (shared : List Shared) (shown : Tree → List ℕ) (mode : 
         steps = states.steps;
         used = states.used;
       })
-  run_follows ev sticky follow {w} (fresh {k = k} {l = l} next) s t states =
+  run_follows ev sticky follow {w} (fresh {k = k} {l = l} numbered next) s t states =
       numbered_follows w _ _ s t (λ m s'. run set ev (k m) s') (λ m t'. run set ev (l m) t') (ap (λ n. n == last_number) states.definitions.number) states
       (λ m s' t' states'. run_follows ev sticky follow (next m) s' t' states')
   run_follows ev sticky follow {w} (turn {p = p} {q = q} next) s t states =
@@ -163,13 +163,13 @@ module _ (R : Realm) (shared : List Shared) (shown : Tree → List ℕ) (mode : 
       (on_value-sticks (judged-sticks set zero _ (λ w' u' g'. ended g') e))
       (on_value_follows w _ _ (λ u g v s' t' v_in states'.
       judged_follows u zero _ _ (λ u' g' v' s2 t2 v_in' states2. here u' (Stopped Stop.Iteration) s2 t2 tt states2) e v v_in s' t' states'))
-      (run_follows ev sticky follow (pass_both R w e one) s t states)
+      (run_follows ev sticky follow (pass_both R may w e one) s t states)
   passes_follow ev sticky follow (suc n) w e s t one states =
       ending_follows w (on_value (judged set (suc n) (λ v s'. passes set ev n v s') e)) (on_value (judged set (suc n) (λ v t'. passes set ev n v t') e))
       (on_value-sticks (judged-sticks set (suc n) _ (λ w' u'. passes-sticks set ev sticky n w' u') e))
       (on_value_follows w _ _ (λ u g v s' t' v_in states'.
       judged_follows u (suc n) _ _ (λ u' g' v' s2 t2 v_in' states2. passes_follow ev sticky follow n u' v' s2 t2 v_in' states2) e v v_in s' t' states'))
-      (run_follows ev sticky follow (pass_both R w e one) s t states)
+      (run_follows ev sticky follow (pass_both R may w e one) s t states)
 
   pub eval_at_follows : (n : ℕ) → Follow (eval_at set n)
   eval_at_follows zero w e s t one states = here w (Stopped Stop.Recursion) s t tt states

@@ -133,6 +133,7 @@ module _ (names : Names) (is : IsNames names) (C : Sym → Type 0) (closed : (s 
         World = Extension;
         Member = Inhabits;
         Table = WholeTable;
+        Numbered = λ w. Unit {0};
         knows = knows_table;
         tabled = tabled_by;
         has_role = role_tabled;
@@ -187,7 +188,7 @@ used_over (called {c = c} {s = s} {k = k} h next) (a ∷ rest) = go (same_call a
     go false later = h
 
 alike_over : (names : Names) (is : IsNames names) (C : Sym → Type 0) (closed : (s t : Sym) → C s → is_row names s ≡ true → is_row names t ≡ true → C t) (shared : List Shared) (set : Setting) (p q : Play)
-    → (events : List Event) → (over p events).used ≡ false → Follows (realm names is C closed) shared set.shown set.mode set.kernel set.limits start p q
+    → (events : List Event) → (over p events).used ≡ false → Follows (realm names is C closed) (λ x. tt) shared set.shown set.mode set.kernel set.limits start p q
     → WentAlike names C events (over p events) (over q events)
 alike_over names is C closed shared set p q events free (quiet {o = o} {s = s} {t = t} u g end states) =
     record {
@@ -207,7 +208,7 @@ one_way : (set : Setting) → IsNames set.names → (C : Sym → Type 0) (d c : 
 unfolding eval
 one_way set is C d c close one e events stands free =
     alike_over set.names is C close.table d.shared set (whole set d e) (whole set c e) events free
-    (eval_at_follows (realm set.names is C close.table) d.shared set.shown set.mode set.kernel set.limits set.limits.recursion start e (begun d) (begun c) (stands_in C e stands)
+    (eval_at_follows (realm set.names is C close.table) (λ x. tt) d.shared set.shown set.mode set.kernel set.limits set.limits.recursion start e (begun d) (begun c) (stands_in C e stands)
     (record { definitions = agree_at set.names is C close.table d c close one; steps = refl; used = refl }))
 
 -- ---- the other way round

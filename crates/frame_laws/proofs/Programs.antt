@@ -27,6 +27,8 @@ pub record Realm : Type 1 where
   pub World : Type 0
   pub Member : World → Sym → Type 0
   pub Table : Type 0
+  -- where a module number may be taken
+  pub Numbered : World → Type 0
   pub knows : (w : World) → Table → (r : Builtin) → Member w (known names r)
   pub tabled : (w : World) (r : Builtin) (s : Sym) → Member w s → is_known names r s ≡ true → Table
   pub has_role : (w : World) (r : Builtin) (s : Sym) → Member w s → role_of names s ≡ Some r → Table
@@ -79,7 +81,7 @@ module _ (R : Realm) where
     -- a symbol's definition is changed; that of a shared one may differ in the two
     edit : {w : World} {s : Sym} {f : Definition → Definition} {p q : Prog} → Table → Member w s → ((d : Definition) → DefinedIn w d → DefinedIn w (f d)) → Both w p q
         → Both w (Look s (λ seen. Put s (f seen.definition) p)) (Look s (λ seen. Put s (f seen.definition) q))
-    fresh : {w : World} {k l : ℕ → Prog} → ((m : ℕ) → Both w (k m) (l m)) → Both w (Fresh k) (Fresh l)
+    fresh : {w : World} {k l : ℕ → Prog} → R.Numbered w → ((m : ℕ) → Both w (k m) (l m)) → Both w (Fresh k) (Fresh l)
     turn : {w : World} {p q : Prog} → Both w p q → Both w (Turn p) (Turn q)
     check : {w : World} {e : Tree} {p q : Prog} → Has w e → Both w p q → Both w (Check e p) (Check e q)
     moded : {w : World} {k l : Mode → ℕ → Prog} → Both w (Moded k) (Moded l)

@@ -1,6 +1,6 @@
 -- Every row of the table with its lemma. A row that is a function of its items alone owes that each symbol of its result stands in the items
 -- or in the table; the others owe that their programs keep to a set that holds the table.
-use Rattle.std.proofs.Common.{true, false, List, [], ◌∷◌}
+use Rattle.std.proofs.Common.{Bool, ◌≡◌, refl, true, false, List, [], ◌∷◌}
 use Rattle.std.specs.Prelude.{pos, negsuc, int_lt, int_le}
 use Rattle.expr_tree.specs.declared.sym.Sym.{Sym}
 use Rattle.expr_tree.specs.Tree.{Tree}
@@ -91,6 +91,11 @@ worked_in C names knows Builtin.Characters es all = N.characters_in C names know
 worked_in C names knows Builtin.StringReverse es all = N.string_reverse_in C names knows es
 worked_in C names knows _ es all = tt
 
+-- the row that takes a module number
+abbrev pub takes_number : Builtin → Bool
+takes_number Builtin.Module = true
+takes_number _ = false
+
 module _ (R : Realm) where
   open R use {names, World, Member, Table, knows}
 
@@ -99,72 +104,72 @@ module _ (R : Realm) where
   as_program_both w p q (Gives e) next fine = done fine
   as_program_both w p q TooWide next fine = stop
 
-  pub row_both : Table → (w : World) (r : Builtin) (p q : Prog) (es : List Tree) → Later R w p q → HasAll R w es → Both R w (row names r p es) (row names r q es)
+  pub row_both : Table → (w : World) (r : Builtin) → (takes_number r ≡ true → R.Numbered w) → (p q : Prog) (es : List Tree) → Later R w p q → HasAll R w es → Both R w (row names r p es) (row names r q es)
   unfolding row
-  row_both t w Builtin.CompoundExpression p q es next all = Control.in_turn_both R w p q es next all
-  row_both t w Builtin.If p q es next all = Control.conditional_both R t w p q es next all
-  row_both t w Builtin.Which p q es next all = Control.which_both R t w p q es next all
-  row_both t w Builtin.And p q es next all = Control.connected_both R t Builtin.And Builtin.True Builtin.False w es [] all tt
-  row_both t w Builtin.Or p q es next all = Control.connected_both R t Builtin.Or Builtin.False Builtin.True w es [] all tt
-  row_both t w Builtin.While p q es next all = Control.while_both R t w p q es next all
-  row_both t w Builtin.Do p q es next all = Control.iterated_both R t Builtin.Do (λ vs. null names) (λ vs. null names) w p q es (λ u g vs vs_in. Control.null_both R u t) next all
-  row_both t w Builtin.Table p q es next all =
+  row_both t w Builtin.CompoundExpression may p q es next all = Control.in_turn_both R w p q es next all
+  row_both t w Builtin.If may p q es next all = Control.conditional_both R t w p q es next all
+  row_both t w Builtin.Which may p q es next all = Control.which_both R t w p q es next all
+  row_both t w Builtin.And may p q es next all = Control.connected_both R t Builtin.And Builtin.True Builtin.False w es [] all tt
+  row_both t w Builtin.Or may p q es next all = Control.connected_both R t Builtin.Or Builtin.False Builtin.True w es [] all tt
+  row_both t w Builtin.While may p q es next all = Control.while_both R t w p q es next all
+  row_both t w Builtin.Do may p q es next all = Control.iterated_both R t Builtin.Do (λ vs. null names) (λ vs. null names) w p q es (λ u g vs vs_in. Control.null_both R u t) next all
+  row_both t w Builtin.Table may p q es next all =
       Control.iterated_both R t Builtin.Table (λ vs. Done (make names Builtin.List vs)) (λ vs. Done (make names Builtin.List vs)) w p q es (λ u g vs vs_in. done (made R u t Builtin.List vs vs_in)) next all
-  row_both t w Builtin.Sum p q es next all =
+  row_both t w Builtin.Sum may p q es next all =
       Control.iterated_both R t Builtin.Sum (λ vs. Done (make names Builtin.Plus vs)) (λ vs. Done (make names Builtin.Plus vs)) w p q es (λ u g vs vs_in. done (made R u t Builtin.Plus vs vs_in)) next all
-  row_both t w Builtin.Nest p q es next all = Control.nest_both R w p q es next all
-  row_both t w Builtin.NestList p q es next all = Control.nest_list_both R t w p q es next all
-  row_both t w Builtin.FoldList p q es next all = Control.fold_list_both R w p q es next all
-  row_both t w Builtin.FixedPoint p q es next all = Control.fixed_point_both R w p q es next all
-  row_both t w Builtin.Fold p q es next all = Control.fold_both R w p q es next all
-  row_both t w Builtin.Select p q es next all = Control.select_both R w p q es next all
-  row_both t w Builtin.Module p q es next all = Scope.with_locals_both R bases_differ (module_form names) (module_form names) w p q es (Scope.module_both R t w) next all
-  row_both t w Builtin.Block p q es next all = Scope.with_locals_both R differ (block_form names) (block_form names) w p q es (Scope.block_both R w) next all
-  row_both t w Builtin.With p q es next all = Scope.with_locals_both R differ (with_form names p) (with_form names q) w p q es (Scope.with_both R t w p q next) next all
-  row_both t w Builtin.Set p q es next all = Change.set_both R t ToHead (λ u. tt) w p q es next all
-  row_both t w Builtin.SetDelayed p q es next all = Change.set_delayed_both R t ToHead (λ u. tt) w p q es next all
-  row_both t w Builtin.UpSet p q es next all = Change.set_both R t ToItems (λ u. tt) w p q es next all
-  row_both t w Builtin.UpSetDelayed p q es next all = Change.set_delayed_both R t ToItems (λ u. tt) w p q es next all
-  row_both t w Builtin.TagSet p q es next all = Change.tag_set_both R t w p q es next all
-  row_both t w Builtin.TagSetDelayed p q es next all = Change.tag_set_delayed_both R t w p q es next all
-  row_both t w Builtin.Unset p q es next all = Change.unset_both R t w p q es next all
-  row_both t w Builtin.Increment p q es next all = Change.step_by_both R t (pos 1) old_value (Change.gives_old R) w p q es next all
-  row_both t w Builtin.Decrement p q es next all = Change.step_by_both R t (negsuc 0) old_value (Change.gives_old R) w p q es next all
-  row_both t w Builtin.PreIncrement p q es next all = Change.step_by_both R t (pos 1) new_value (Change.gives_new R) w p q es next all
-  row_both t w Builtin.PreDecrement p q es next all = Change.step_by_both R t (negsuc 0) new_value (Change.gives_new R) w p q es next all
-  row_both t w Builtin.AddTo p q es next all = Change.change_with_both R t Builtin.Plus w p q es next all
-  row_both t w Builtin.SubtractFrom p q es next all = Change.subtract_from_both R t w p q es next all
-  row_both t w Builtin.TimesBy p q es next all = Change.change_with_both R t Builtin.Times w p q es next all
-  row_both t w Builtin.AppendTo p q es next all = Change.change_with_both R t Builtin.Append w p q es next all
-  row_both t w Builtin.PrependTo p q es next all = Change.change_with_both R t Builtin.Prepend w p q es next all
-  row_both t w Builtin.Clear p q es next all = Change.clear_both R t w p q es next all
-  row_both t w Builtin.ClearAll p q es next all = Change.clear_all_both R t w p q es next all
-  row_both t w Builtin.SetAttributes p q es next all = Change.change_attributes_both R t with_attributes (Change.with_attributes_in R) w p q es next all
-  row_both t w Builtin.ClearAttributes p q es next all = Change.change_attributes_both R t without_attributes (Change.without_attributes_in R) w p q es next all
-  row_both t w Builtin.Attributes p q es next all = Change.attributes_row_both R t w p q es next all
-  row_both t w Builtin.Protect p q es next all = Change.protect_both R t (with_attributes (Builtin.Protected ∷ [])) (Change.with_attributes_in R (Builtin.Protected ∷ [])) w p q es next all
-  row_both t w Builtin.Unprotect p q es next all = Change.protect_both R t (without_attributes (Builtin.Protected ∷ [])) (Change.without_attributes_in R (Builtin.Protected ∷ [])) w p q es next all
-  row_both t w Builtin.ReplaceAll p q es next all = Scope.replace_all_both R w p q es next all
-  row_both t w Builtin.ReplaceRepeated p q es next all = Scope.replace_repeated_both R w p q es next all
-  row_both t w Builtin.MatchQ p q es next all = Scope.match_q_both R t w p q es next all
-  row_both t w Builtin.MemberQ p q es next all = Scope.member_q_both R t w p q es next all
-  row_both t w Builtin.Cases p q es next all = Scope.cases_both R t w p q es next all
-  row_both t w Builtin.Count p q es next all = Scope.count_row_both R t w p q es next all
-  row_both t w Builtin.FreeQ p q es next all = Scope.free_q_both R t w p q es next all
-  row_both t w Builtin.ParallelTable p q es next all = Mode.parallel_loop_both R Builtin.ParallelTable Builtin.Table w p q es next
-  row_both t w Builtin.ParallelDo p q es next all = Mode.parallel_loop_both R Builtin.ParallelDo Builtin.Do w p q es next
-  row_both t w Builtin.ParallelSum p q es next all = Mode.parallel_loop_both R Builtin.ParallelSum Builtin.Sum w p q es next
-  row_both t w Builtin.ParallelEvaluate p q es next all = Mode.outside_or_failed_both R Builtin.ParallelEvaluate w p q es next
-  row_both t w Builtin.ParallelCombine p q es next all = Mode.parallel_combine_both R w p q es next
-  row_both t w Builtin.ParallelTry p q es next all = Mode.parallel_try_both R w p q es next
-  row_both t w Builtin.WaitNext p q es next all = Mode.outside_or_failed_both R Builtin.WaitNext w p q es next
-  row_both t w Builtin.WaitAll p q es next all = Mode.wait_all_both R w p q es next
-  row_both t w Builtin.CriticalSection p q es next all = Mode.critical_section_both R w p q es next
-  row_both t w Builtin.Quit p q es next all = Mode.quit_both R w p q es next
-  row_both t w Builtin.ParallelMap p q es next all = Mode.parallel_map_both R w p q es next
-  row_both t w Builtin.ParallelSubmit p q es next all = Mode.parallel_submit_both R w p q es next
-  row_both t w Builtin.DistributeDefinitions p q es next all = Mode.of_symbols_both R Builtin.DistributeDefinitions w p q es next
-  row_both t w Builtin.SetSharedVariable p q es next all = Mode.of_symbols_both R Builtin.SetSharedVariable w p q es next
-  row_both t w Builtin.SetSharedFunction p q es next all = Mode.of_symbols_both R Builtin.SetSharedFunction w p q es next
-  row_both t w Builtin.Print p q es next all = Mode.print_both R w es
-  row_both t w r p q es next all = as_program_both w p q (worked names r es) next (worked_in (Member w) names (knows w t) r es all)
+  row_both t w Builtin.Nest may p q es next all = Control.nest_both R w p q es next all
+  row_both t w Builtin.NestList may p q es next all = Control.nest_list_both R t w p q es next all
+  row_both t w Builtin.FoldList may p q es next all = Control.fold_list_both R w p q es next all
+  row_both t w Builtin.FixedPoint may p q es next all = Control.fixed_point_both R w p q es next all
+  row_both t w Builtin.Fold may p q es next all = Control.fold_both R w p q es next all
+  row_both t w Builtin.Select may p q es next all = Control.select_both R w p q es next all
+  row_both t w Builtin.Module may p q es next all = Scope.with_locals_both R bases_differ (module_form names) (module_form names) w p q es (Scope.module_both R t w (may refl)) next all
+  row_both t w Builtin.Block may p q es next all = Scope.with_locals_both R differ (block_form names) (block_form names) w p q es (Scope.block_both R w) next all
+  row_both t w Builtin.With may p q es next all = Scope.with_locals_both R differ (with_form names p) (with_form names q) w p q es (Scope.with_both R t w p q next) next all
+  row_both t w Builtin.Set may p q es next all = Change.set_both R t ToHead (λ u. tt) w p q es next all
+  row_both t w Builtin.SetDelayed may p q es next all = Change.set_delayed_both R t ToHead (λ u. tt) w p q es next all
+  row_both t w Builtin.UpSet may p q es next all = Change.set_both R t ToItems (λ u. tt) w p q es next all
+  row_both t w Builtin.UpSetDelayed may p q es next all = Change.set_delayed_both R t ToItems (λ u. tt) w p q es next all
+  row_both t w Builtin.TagSet may p q es next all = Change.tag_set_both R t w p q es next all
+  row_both t w Builtin.TagSetDelayed may p q es next all = Change.tag_set_delayed_both R t w p q es next all
+  row_both t w Builtin.Unset may p q es next all = Change.unset_both R t w p q es next all
+  row_both t w Builtin.Increment may p q es next all = Change.step_by_both R t (pos 1) old_value (Change.gives_old R) w p q es next all
+  row_both t w Builtin.Decrement may p q es next all = Change.step_by_both R t (negsuc 0) old_value (Change.gives_old R) w p q es next all
+  row_both t w Builtin.PreIncrement may p q es next all = Change.step_by_both R t (pos 1) new_value (Change.gives_new R) w p q es next all
+  row_both t w Builtin.PreDecrement may p q es next all = Change.step_by_both R t (negsuc 0) new_value (Change.gives_new R) w p q es next all
+  row_both t w Builtin.AddTo may p q es next all = Change.change_with_both R t Builtin.Plus w p q es next all
+  row_both t w Builtin.SubtractFrom may p q es next all = Change.subtract_from_both R t w p q es next all
+  row_both t w Builtin.TimesBy may p q es next all = Change.change_with_both R t Builtin.Times w p q es next all
+  row_both t w Builtin.AppendTo may p q es next all = Change.change_with_both R t Builtin.Append w p q es next all
+  row_both t w Builtin.PrependTo may p q es next all = Change.change_with_both R t Builtin.Prepend w p q es next all
+  row_both t w Builtin.Clear may p q es next all = Change.clear_both R t w p q es next all
+  row_both t w Builtin.ClearAll may p q es next all = Change.clear_all_both R t w p q es next all
+  row_both t w Builtin.SetAttributes may p q es next all = Change.change_attributes_both R t with_attributes (Change.with_attributes_in R) w p q es next all
+  row_both t w Builtin.ClearAttributes may p q es next all = Change.change_attributes_both R t without_attributes (Change.without_attributes_in R) w p q es next all
+  row_both t w Builtin.Attributes may p q es next all = Change.attributes_row_both R t w p q es next all
+  row_both t w Builtin.Protect may p q es next all = Change.protect_both R t (with_attributes (Builtin.Protected ∷ [])) (Change.with_attributes_in R (Builtin.Protected ∷ [])) w p q es next all
+  row_both t w Builtin.Unprotect may p q es next all = Change.protect_both R t (without_attributes (Builtin.Protected ∷ [])) (Change.without_attributes_in R (Builtin.Protected ∷ [])) w p q es next all
+  row_both t w Builtin.ReplaceAll may p q es next all = Scope.replace_all_both R w p q es next all
+  row_both t w Builtin.ReplaceRepeated may p q es next all = Scope.replace_repeated_both R w p q es next all
+  row_both t w Builtin.MatchQ may p q es next all = Scope.match_q_both R t w p q es next all
+  row_both t w Builtin.MemberQ may p q es next all = Scope.member_q_both R t w p q es next all
+  row_both t w Builtin.Cases may p q es next all = Scope.cases_both R t w p q es next all
+  row_both t w Builtin.Count may p q es next all = Scope.count_row_both R t w p q es next all
+  row_both t w Builtin.FreeQ may p q es next all = Scope.free_q_both R t w p q es next all
+  row_both t w Builtin.ParallelTable may p q es next all = Mode.parallel_loop_both R Builtin.ParallelTable Builtin.Table w p q es next
+  row_both t w Builtin.ParallelDo may p q es next all = Mode.parallel_loop_both R Builtin.ParallelDo Builtin.Do w p q es next
+  row_both t w Builtin.ParallelSum may p q es next all = Mode.parallel_loop_both R Builtin.ParallelSum Builtin.Sum w p q es next
+  row_both t w Builtin.ParallelEvaluate may p q es next all = Mode.outside_or_failed_both R Builtin.ParallelEvaluate w p q es next
+  row_both t w Builtin.ParallelCombine may p q es next all = Mode.parallel_combine_both R w p q es next
+  row_both t w Builtin.ParallelTry may p q es next all = Mode.parallel_try_both R w p q es next
+  row_both t w Builtin.WaitNext may p q es next all = Mode.outside_or_failed_both R Builtin.WaitNext w p q es next
+  row_both t w Builtin.WaitAll may p q es next all = Mode.wait_all_both R w p q es next
+  row_both t w Builtin.CriticalSection may p q es next all = Mode.critical_section_both R w p q es next
+  row_both t w Builtin.Quit may p q es next all = Mode.quit_both R w p q es next
+  row_both t w Builtin.ParallelMap may p q es next all = Mode.parallel_map_both R w p q es next
+  row_both t w Builtin.ParallelSubmit may p q es next all = Mode.parallel_submit_both R w p q es next
+  row_both t w Builtin.DistributeDefinitions may p q es next all = Mode.of_symbols_both R Builtin.DistributeDefinitions w p q es next
+  row_both t w Builtin.SetSharedVariable may p q es next all = Mode.of_symbols_both R Builtin.SetSharedVariable w p q es next
+  row_both t w Builtin.SetSharedFunction may p q es next all = Mode.of_symbols_both R Builtin.SetSharedFunction w p q es next
+  row_both t w Builtin.Print may p q es next all = Mode.print_both R w es
+  row_both t w r may p q es next all = as_program_both w p q (worked names r es) next (worked_in (Member w) names (knows w t) r es all)

@@ -89,9 +89,9 @@ module _ (R : Realm) where
       (λ u g s_in. make_all_both t m ls u p q (later_locals R w u g ls all.1)
       (λ u' g' rest. next u' (later R w u u' g g') (g' (renamed m l.symbol) s_in, rest)))
 
-  pub module_both : Table → (w : World) (ls : List Local) (body : Tree) → LocalsIn w ls → Has R w body → Both R w (module_form names ls body) (module_form names ls body)
-  module_both t w ls body ls_in body_in =
-      fresh (λ m. ask_values_both ls w [] _ _ ls_in tt (λ u g vs vs_in. make_all_both t m vs u _ _ vs_in
+  pub module_both : Table → (w : World) → R.Numbered w → (ls : List Local) (body : Tree) → LocalsIn w ls → Has R w body → Both R w (module_form names ls body) (module_form names ls body)
+  module_both t w may ls body ls_in body_in =
+      fresh may (λ m. ask_values_both ls w [] _ _ ls_in tt (λ u g vs vs_in. make_all_both t m vs u _ _ vs_in
       (λ u' g' symbols. done (placed R u' (renaming m vs) body (renaming_in t u' m vs symbols) (later_in R w u' (later R w u u' g g') body body_in)))))
 
   -- ---- Block and With
