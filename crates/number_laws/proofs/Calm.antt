@@ -1,5 +1,5 @@
 -- Programs that take no module number: all rows but Module, in the set of all symbols.
-use Rattle.std.proofs.Common.{◌≡◌, refl, List, [], ◌∷◌, Option, Some, None}
+use Rattle.std.proofs.Common.{refl, List, [], ◌∷◌, Option, Some, None}
 use Rattle.expr_tree.specs.declared.sym.Sym.{Sym}
 use Rattle.expr_tree.specs.Tree.{Tree, integer, string, symbol, normal, Trees, nil, cons}
 use Rattle.semantics.specs.Names.{Names}
@@ -7,7 +7,7 @@ use Rattle.semantics.specs.Definitions.{Definition}
 use Rattle.semantics.specs.Program.{Seen}
 use Rattle.semantics.specs.Rule.{Rule}
 use Rattle.frame_laws.proofs.Inside.{Each, Opt, In, Ins}
-use Rattle.frame_laws.proofs.Programs.{Origin, before, Realm, Has, HasAll, RuleIn, DefinedIn, SeenBoth}
+use Rattle.frame_laws.proofs.Programs.{before, Realm, DefinedIn, SeenBoth}
 
 pub data Nowhere : Type 0 where
 

@@ -1,24 +1,20 @@
 -- Each module number is paid with a step, but for one in each nested evaluation that was going on where it stopped.
-use Rattle.std.proofs.Common.{◌≡◌, refl, sym, ap, subst, ◌∙◌, ℕ, zero, suc, ◌+◌, ◌≤◌, ◌<◌, arith, Bool, true, false, ltb, List, [], ◌∷◌, Option, Some, None, true≢false, le_refl, le_trans, ltb-true, ltb-false, lt-ltb, le-ltb}
+use Rattle.std.proofs.Common.{◌≡◌, refl, sym, ap, subst, ◌∙◌, ℕ, zero, suc, ◌+◌, ◌≤◌, arith, Bool, true, false, ltb, List, [], ◌∷◌, Option, Some, None, true≢false, le_refl, le_trans, ltb-true, ltb-false, lt-ltb, le-ltb}
 use Rattle.std.specs.Prelude.{◌==◌}
-use Rattle.expr_tree.specs.declared.sym.Sym.{Sym}
 use Rattle.expr_tree.specs.declared.limits.Stop.{Stop}
 use Rattle.expr_tree.specs.Tree.{Tree, size}
 use Rattle.expr_tree.specs.Order.{same}
 use Rattle.expr_tree.proofs.Same.{tree_eq-Decides}
 use Rattle.semantics.specs.Names.{Names}
 use Rattle.semantics.specs.Definitions.{Definitions}
-use Rattle.semantics.specs.Program.{Prog, Done, Local}
-use Rattle.semantics.specs.Pass.{pass}
-use Rattle.semantics.specs.Play.{Setting, State, End, Value, Stopped, Quit, Play, Over, Evaluator, ending, on_value, leaving_locals, too_large, with_step, with_locals, without_locals, unless_stopped, stepped, settled, if_number_left, now_used, run, changed, judged, passes, eval_at, seen, written, put_locals, put_back, with_definitions, last_number, after_number, whole, begun}
-use Rattle.semantics.specs.Eval.{Event, Outcome, Ended, Evaluation, if_matched, over, eval, same_call}
+use Rattle.semantics.specs.Program.{Prog, Local}
+use Rattle.semantics.specs.Play.{Setting, State, Value, Stopped, Quit, Play, Over, Evaluator, ending, on_value, leaving_locals, too_large, with_locals, without_locals, unless_stopped, stepped, settled, if_number_left, now_used, run, changed, judged, passes, eval_at, seen, put_locals, put_back, with_definitions, last_number, after_number, whole, begun}
+use Rattle.semantics.specs.Eval.{Event, Evaluation, if_matched, over, eval, same_call}
 use Rattle.language_laws.proofs.Modes.{Used, ended, called, Sticky, ending-sticks, on_value-sticks, run-sticks, judged-sticks, passes-sticks, eval_at-sticks}
 use Rattle.frame_laws.proofs.Programs.{Both, done, stop, leaves, ask, within, look, put, edit, fresh, turn, check, moded}
 use Rattle.number_laws.specs.Bound.{going_on, NumbersBounded}
 use Rattle.number_laws.proofs.Calm.{calm, anything, seen_anyhow}
-use Rattle.number_laws.proofs.Thrift as Thrift
 use Rattle.number_laws.proofs.Thrift.{Simple, result, asking, putting, Thrifty, pass_thrifty}
-use Rattle.number_laws.proofs.Sizes.{Below}
 
 abbrev number : State → ℕ
 number s = s.definitions.module_number

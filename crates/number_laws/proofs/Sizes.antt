@@ -1,14 +1,14 @@
 -- Sizes of what the steps of a pass leave of the elements of an expression: each is below the size of the whole where those of the elements are.
-use Rattle.std.proofs.Common.{◌≡◌, refl, sym, ap, subst, ◌∙◌, ℕ, zero, suc, ◌+◌, ◌≤◌, ◌<◌, arith, Bool, true, false, cond, List, [], ◌∷◌, ◌++◌, Option, Some, None, le_trans}
-use Rattle.std.specs.Prelude.{if◌then◌else◌, ◌||◌}
+use Rattle.std.proofs.Common.{◌≡◌, refl, ap, ℕ, ◌≤◌, ◌<◌, arith, Bool, true, false, cond, List, [], ◌∷◌, Option, Some, None}
+use Rattle.std.specs.Prelude.{◌||◌}
 use Rattle.std.specs.Ordering.{is_le}
 use Rattle.expr_tree.specs.declared.sym.Sym.{Sym}
-use Rattle.expr_tree.specs.Tree.{Tree, integer, string, symbol, normal, Trees, nil, cons, elements, trees, call, size, sizes}
+use Rattle.expr_tree.specs.Tree.{Tree, integer, string, symbol, normal, Trees, nil, cons, elements, trees, size, sizes}
 use Rattle.expr_tree.specs.Order.{tree_cmp, same_symbol}
 use Rattle.expr_tree.specs.Substitution.{Binding, value_of, bound_in, without, among, value_or_symbol, put_in_items}
 use Rattle.semantics.specs.Builtin.{Builtin}
 use Rattle.semantics.specs.Names.{Names, known, is_call, items_of}
-use Rattle.semantics.specs.Steps.{splice, unwrapped, strip, is_call_of, flatten_item, flatten_items, flatten, put_in, ordered}
+use Rattle.semantics.specs.Steps.{splice, unwrapped, strip, is_call_of, flatten_item, flatten_items, put_in, ordered}
 use Rattle.semantics.specs.Definitions.{Attributes, has}
 use Rattle.semantics.specs.Assemble.{spliced, flattened, sorted}
 use Rattle.semantics.specs.InPlace.{binders, put_in_place}

@@ -1,8 +1,7 @@
 -- A pass takes at most one module number; where none of the elements grew as they were evaluated, its result is then smaller than the whole.
-use Rattle.std.proofs.Common.{◌≡◌, refl, sym, ap, subst, ◌∙◌, ℕ, zero, suc, ◌+◌, ◌≤◌, ◌<◌, arith, Bool, true, false, List, [], ◌∷◌, ◌++◌, map, Option, Some, None, true≢false}
-use Rattle.std.specs.Prelude.{◌&&◌, not}
+use Rattle.std.proofs.Common.{◌≡◌, refl, sym, subst, ◌∙◌, ℕ, ◌≤◌, ◌<◌, arith, Bool, true, false, List, [], ◌∷◌, ◌++◌, map, Option, Some, None, true≢false}
 use Rattle.expr_tree.specs.declared.sym.Sym.{Sym}
-use Rattle.expr_tree.specs.Tree.{Tree, integer, string, symbol, normal, Trees, nil, cons, elements, call, size, sizes}
+use Rattle.expr_tree.specs.Tree.{Tree, integer, string, symbol, normal, elements, call, size}
 use Rattle.expr_tree.specs.Shapes.{symbol_of}
 use Rattle.semantics.specs.Builtin.{Builtin}
 use Rattle.semantics.specs.Names.{Names, is_name, is_call, items_of, make, role_of}
@@ -10,17 +9,17 @@ use Rattle.semantics.specs.Steps.{strip}
 use Rattle.expr_tree.specs.Substitution.{Binding}
 use Rattle.semantics.specs.InPlace.{put_in_place}
 use Rattle.semantics.specs.Rule.{Rule, condition_of, result_of}
-use Rattle.semantics.specs.Match.{Guard, Cond, Found, matches, heads, guard_expression}
+use Rattle.semantics.specs.Match.{Guard, Cond, Found, matches, heads}
 use Rattle.semantics.specs.Definitions.{Definition, Attributes, Share, Function, has}
 use Rattle.semantics.specs.Program.{Prog, Done, Ask, Look, Put, Fresh, Turn, Check, Moded, Local, Mode, Seen, look_all}
-use Rattle.semantics.specs.Attempt.{told, try_guards, try_binding, try_bindings, try_rule, try_rules}
+use Rattle.semantics.specs.Attempt.{told, try_guards, try_binding, try_bindings, try_rules}
 use Rattle.semantics.specs.Assemble.{attributes_of, holds_first, holds_rest, is_asked, ask_rest, ask_items, spliced, first_steps, flattened, threaded, sorted, check_all}
-use Rattle.semantics.specs.Scoping.{locals_of, symbols_of, bases_differ, ask_values, with_locals, renaming, with_number, make_all, module_form, apply_function}
+use Rattle.semantics.specs.Scoping.{locals_of, symbols_of, bases_differ, ask_values, with_locals, renaming, with_number, make_all, module_form}
 use Rattle.semantics.specs.Sections.{accessed, access_or, unless_access, same_share}
 use Rattle.semantics.specs.Table.{row}
 use Rattle.semantics.specs.Pass.{marked, symbol_rules, up_rules, row_or_stay, built_in, down_rules, last_steps, left_standing, later_steps, pass}
-use Rattle.frame_laws.proofs.Inside.{Each, Opt}
-use Rattle.frame_laws.proofs.Programs.{Both, done, now}
+use Rattle.frame_laws.proofs.Inside.{Each}
+use Rattle.frame_laws.proofs.Programs.{Both, done}
 use Rattle.frame_laws.proofs.FirstSteps.{check_all_both}
 use Rattle.frame_laws.proofs.ScopeRows.{apply_function_both}
 use Rattle.frame_laws.proofs.Rows.{row_both, takes_number}

@@ -4,7 +4,7 @@
 use Rattle.std.specs.Prelude.{◌≡◌, ℕ, ◌+◌, ◌≤◌, List, false}
 use Rattle.expr_tree.specs.Tree.{Tree}
 use Rattle.semantics.specs.Definitions.{Definitions}
-use Rattle.semantics.specs.Play.{Setting, End, Value}
+use Rattle.semantics.specs.Play.{Setting, Value}
 use Rattle.semantics.specs.Eval.{Event, Outcome, Ended, eval}
 
 -- what an end adds: nothing at a value, and else so many nested evaluations as may be going on
