@@ -1,2 +1,3 @@
 pub mod Installed
 pub mod Quieted
+pub mod Batched
