@@ -1,5 +1,5 @@
 -- The law of the frame: a closed set with what Module makes is a set that evaluations keep to.
-use Rattle.std.proofs.Common.{ℕ, ◌≤◌, ◌<◌, arith, le_refl, ◌≡◌, refl, sym, ap, subst, ◌∙◌, Bool, true, false, List, [], ◌∷◌, ◌++◌, Option, Some, None, true≢false, eqb-true}
+use Rattle.std.proofs.Common.{ℕ, ◌≤◌, arith, le_refl, ◌≡◌, refl, sym, ap, subst, ◌∙◌, Bool, true, false, List, [], ◌∷◌, ◌++◌, Option, Some, None, true≢false, eqb-true}
 use Rattle.std.specs.Prelude.{◌&&◌, ◌||◌, ◌==◌}
 use Rattle.expr_tree.proofs.Same.{symbol_eq-Decides}
 use Rattle.expr_tree.specs.declared.sym.Sym.{Sym}

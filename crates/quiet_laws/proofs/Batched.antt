@@ -1,9 +1,7 @@
 -- A list of quiet applications, evaluated in turn: none touches what the others stand on.
-use Rattle.std.proofs.Common.{◌≡◌, refl, sym, ap, subst, ◌∙◌, ℕ, ◌<◌, Bool, true, false, List, [], ◌∷◌, ◌++◌, map, true≢false}
-use Rattle.std.specs.Prelude.{◌||◌}
+use Rattle.std.proofs.Common.{◌≡◌, refl, sym, ap, subst, ◌∙◌, ℕ, ◌<◌, Bool, true, false, List, [], ◌∷◌, true≢false}
 use Rattle.expr_tree.specs.declared.sym.Sym.{Sym}
 use Rattle.expr_tree.specs.Tree.{Tree}
-use Rattle.expr_tree.specs.Order.{same_symbol}
 use Rattle.expr_tree.specs.Substitution.{among}
 use Rattle.semantics.specs.Names.{Names, IsNames}
 use Rattle.semantics.specs.Definitions.{Definitions, stored}
@@ -16,7 +14,7 @@ use Rattle.journal.specs.Quiet.{by_itself, ended_value, IsQuiet, Quiet, alone}
 use Rattle.journal_laws.proofs.Closed.{sound_closure, complete_closure}
 use Rattle.frame_laws.specs.Frame.{AgreeOn}
 use Rattle.frame_laws.proofs.Framed.{among_left, among_right}
-use Rattle.quiet_laws.specs.Quiet.{NoNameShared, GivesAlone, results, NoneToCome, as_values, BatchAnywhere}
+use Rattle.quiet_laws.specs.Quiet.{NoNameShared, GivesAlone, results, as_values, BatchAnywhere}
 use Rattle.quiet_laws.proofs.Installed.{installed}
 use Rattle.quiet_laws.proofs.Quieted.{in_any_mode, agree_itself}
 
@@ -33,7 +31,7 @@ module _ (set : Setup) (is : IsNames set.names) (d : Definitions) (free : NoName
   K = InClosure set.names d seeds
 
   -- one application leaves the definitions of the whole closure as they were
-  still_agree : (a : Tree) (quiet : IsQuiet set d a) → ((s : Sym) → among s (symbols_of a) ≡ true → among s seeds ≡ true) → (c : Definitions) (r : Evaluation) → AgreeOn set.names K d c
+  pub still_agree : (a : Tree) (quiet : IsQuiet set d a) → ((s : Sym) → among s (symbols_of a) ≡ true → among s seeds ≡ true) → (c : Definitions) (r : Evaluation) → AgreeOn set.names K d c
       → GivesAlone set d a quiet.value [] c r → AgreeOn set.names K d r.definitions
   still_agree a quiet more c r one gives =
       record {
@@ -50,19 +48,20 @@ module _ (set : Setup) (is : IsNames set.names) (d : Definitions) (free : NoName
           sym (gives.untouched s (λ inside. absurd (true≢false (sym (complete_closure set.names d (symbols_of a) s inside) ∙ at)))
           (subst (λ n. s.number < n) one.number (to_come s s_in)))
 
+  -- agreement on the closure of one of them
+  pub narrowed : (a : Tree) → ((s : Sym) → among s (symbols_of a) ≡ true → among s seeds ≡ true) → (c : Definitions) → AgreeOn set.names K d c → AgreeOn set.names (InClosure set.names d (symbols_of a)) d c
+  narrowed a first c one = record { shared = one.shared; number = one.number; same = λ s s_in unshared. one.same s (more_seeds set.names d (symbols_of a) seeds first s s_in) unshared }
+
   batch : (es : List Tree) → Quiet set d es → ((s : Sym) → among s (symbols_of_all es) ≡ true → among s seeds ≡ true) → (mode : Mode) (kernel : ℕ) (c : Definitions) → AgreeOn set.names K d c
       → results (in_mode set mode kernel) c es ≡ as_values (alone set d es)
   batch [] quiet more mode kernel c one = refl
   batch (a ∷ es) quiet more mode kernel c one =
       let first : (s : Sym) → among s (symbols_of a) ≡ true → among s seeds ≡ true = λ s h. more s (among_left s (symbols_of a) (symbols_of_all es) h) in
-      let gives = in_any_mode set is d free a quiet.0 c (narrowed first) mode kernel [] in
+      let gives = in_any_mode set is d free a quiet.0 c (narrowed a first c one) mode kernel [] in
       let value : ended_value set.names (by_itself set d a).outcome ≡ quiet.0.value = ap (ended_value set.names) quiet.0.gives in
       let rest = batch es quiet.1 (λ s h. more s (among_right s (symbols_of a) (symbols_of_all es) h)) mode kernel (eval (in_mode set mode kernel) c a []).definitions
       (still_agree a quiet.0 first c (eval (in_mode set mode kernel) c a []) one gives) in
       λ i. (gives.outcome ∙ sym (ap (λ v. Outcome.Ended (End.Value v)) value)) i ∷ rest i
-    where
-      narrowed : ((s : Sym) → among s (symbols_of a) ≡ true → among s seeds ≡ true) → AgreeOn set.names (InClosure set.names d (symbols_of a)) d c
-      narrowed first = record { shared = one.shared; number = one.number; same = λ s s_in unshared. one.same s (more_seeds set.names d (symbols_of a) seeds first s s_in) unshared }
 
 pub batch_anywhere : BatchAnywhere
 batch_anywhere set is d free es to_come quiet mode kernel left = (

@@ -62,7 +62,7 @@ closed_again names C d c close one =
 
 -- ---- an evaluation without a call is the same whatever the list
 
-ended_needs : {o : End} {c : Call} → ◌≡◌ {A = Outcome} (Needs c) (Ended o) → ⊥
+pub ended_needs : {o : End} {c : Call} → ◌≡◌ {A = Outcome} (Needs c) (Ended o) → ⊥
 ended_needs e = Prim.cc e
 
 record AsAlone (events : List Event) (a b : Evaluation) : Type 0 where

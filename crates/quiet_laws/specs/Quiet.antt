@@ -4,6 +4,7 @@
 --     results               applications evaluated in turn, each with fresh limits
 --     QuietAnywhere         a quiet application does so from its bundle on any kernel, and from the master's definitions
 --     BatchAnywhere         a list of quiet applications does so, evaluated in turn
+--     AttemptDelivers       a kernel's attempt at a quiet application, or at a list of them, delivers these values
 use Rattle.std.specs.Prelude.{◌≡◌, ℕ, ◌<◌, List, [], ◌∷◌, map, true, false}
 use Rattle.expr_tree.specs.declared.sym.Sym.{Sym}
 use Rattle.expr_tree.specs.Tree.{Tree}
@@ -14,6 +15,8 @@ use Rattle.semantics.specs.Play.{Setting, End}
 use Rattle.semantics.specs.Eval.{Event, Outcome, Evaluation, eval}
 use Rattle.journal.specs.Closure.{symbols_of, symbols_of_all, is_row, is_shared, InClosure, bundle, install}
 use Rattle.journal.specs.Core.{Setup, in_mode}
+use Rattle.journal.specs.Entry.{Item}
+use Rattle.journal.specs.Follow.{Attempt, attempt, batch_value}
 use Rattle.journal.specs.Quiet.{by_itself, IsQuiet, Quiet, alone}
 use Rattle.frame_laws.specs.Frame.{AgreeOn, Untouched}
 
@@ -58,3 +61,16 @@ BatchAnywhere =
     → (mode : Mode) (kernel : ℕ) (left : Definitions)
     → (results (in_mode set mode kernel) (install set.names left (bundle set.names d (symbols_of_all es))) es ≡ as_values (alone set d es))
     × (results (in_mode set mode kernel) d es ≡ as_values (alone set d es))
+
+-- an attempt that makes no call and delivers this
+pub record DeliversAtOnce (value : Tree) (a : Attempt) : Type 0 where
+  pub after : Definitions
+  pub delivers : a ≡ Attempt.Delivers value after
+
+-- a kernel's attempt at an item, from its bundle: of one quiet application, and of a list of them
+abbrev pub AttemptDelivers : Type 0
+AttemptDelivers =
+    (set : Setup) → IsNames set.names → (d : Definitions) → NoNameShared set.names d → (kernel : ℕ) (left : Definitions)
+    → ((a : Tree) (quiet : IsQuiet set d a) → DeliversAtOnce quiet.value (attempt set kernel (Item.Plain a) (install set.names left (bundle set.names d (symbols_of a)))))
+    × ((es : List Tree) → NoneToCome set d es → Quiet set d es
+    → DeliversAtOnce (batch_value set (alone set d es)) (attempt set kernel (Item.Batch es) (install set.names left (bundle set.names d (symbols_of_all es)))))
