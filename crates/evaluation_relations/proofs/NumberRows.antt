@@ -1,21 +1,20 @@
 -- What the rows of numbers, tests and strings owe: on related items they give related results.
-use Rattle.std.proofs.Common.{◌≡◌, refl, ap, subst, ℕ, zero, suc, Bool, true, false, List, [], ◌∷◌, ◌++◌, map, length, reverse, Option, Some, None}
-use Rattle.std.specs.Prelude.{ltb, ◌-ℤ◌, nat_abs, ℤ, pos, negsuc, ◌*ℤ◌, ◌&&◌, ◌||◌, not, chars, encode_utf8}
+use Rattle.std.proofs.Common.{◌≡◌, refl, ap, subst, ℕ, zero, suc, Bool, true, false, List, [], ◌∷◌, ◌++◌, map, Option, Some, None}
+use Rattle.std.specs.Prelude.{◌^◌, neg_ℤ, ◌==◌, ltb, ◌-ℤ◌, nat_abs, ℤ, pos, negsuc, ◌*ℤ◌, ◌&&◌, not, chars, encode_utf8}
 use Rattle.std.specs.Ordering.{int_eq}
 use Rattle.expr_tree.specs.declared.sym.Sym.{Sym}
 use Rattle.expr_tree.specs.Limits.{in_range}
 use Rattle.expr_tree.specs.Tree.{Tree, integer, string, trees, Trees}
-use Rattle.expr_tree.specs.Order.{same}
 use Rattle.semantics.specs.Builtin.{Builtin}
-use Rattle.semantics.specs.Names.{Names, is_name, is_call, make, truth}
+use Rattle.semantics.specs.Names.{Names, make, truth}
 use Rattle.semantics.specs.Worked.{Worked, Stays, Gives, TooWide, gives_int}
-use Rattle.semantics.specs.Numbers.{is_even, minus, subtract, divide, quotient_down, quotient, modulo, parity, absolute, sign, gcd_of, gcd, factorial_of, factorial, integers_in, all_integers, best_of, extreme}
-use Rattle.semantics.specs.Tests.{all_same, stands_in, some_same, is_datum, all_data, neighbours_differ, equal, unequal, integers, chain, compared, negated, asked_of_one, is_atom, is_int, is_str}
+use Rattle.semantics.specs.Numbers.{is_even, minus, subtract, divide, quotient_down, quotient, modulo, parity, absolute, sign, gcd_of, gcd, factorial, integers_in, all_integers, best_of, extreme}
+use Rattle.semantics.specs.Tests.{all_same, stands_in, some_same, is_datum, all_data, neighbours_differ, equal, unequal, integers, chain, compared, negated, asked_of_one}
 use Rattle.semantics.specs.Strings.{join_texts, string_join, string_length, characters, string_reverse}
-use Rattle.evaluation_relations.proofs.Relate.{All, all_nil, all_cons, branch}
+use Rattle.evaluation_relations.proofs.Relate.{all_nil, all_cons, branch}
 use Rattle.evaluation_relations.proofs.Relation.{Like, int, str, sym, node, Likes, ends, mores, LikeList, Faithful, name-like, make-like, same-like, is_name-like, packed-like}
 use Rattle.semantics.specs.Steps.{ordered}
-use Rattle.semantics.specs.Numbers.{Part, Gathered, numbers_of, written, assembled, factor_in, factor, write_factor, gather_product, product_of, product}
+use Rattle.semantics.specs.Numbers.{Part, Gathered, numbers_of, written, assembled, factor_in, factor, write_factor, gather_product, product_of, product, int_power, integer_power, power_of, power}
 use Rattle.evaluation_relations.proofs.Relate.{Opt, none, some}
 use Rattle.evaluation_relations.proofs.Relation.{is_call-like, items-like, ordered-like}
 use Rattle.evaluation_relations.proofs.SumRow.{LikePart, LikeGathered, numbers-like, add_part-like, written-like, assembled-like, once-like, same_range, LikeWorked, stays, gives, too_wide}
@@ -311,3 +310,127 @@ module _ (S : Sym → Sym → Type 0) where
 
     pub product-like : {es fs : List Tree} → LikeList S es fs → LikeWorked S (product names es) (product names fs)
     product-like l = product_of-like _ _ (gather_product-like _ _ l (record { whole_part = refl; parts = all_nil }))
+
+    int_power-itself : (n : ℤ) (k : ℕ) → LikeWorked S (int_power n k) (int_power n k)
+    int_power-itself (pos a) k = chosen (ltb 1 a && ltb 127 k) too_wide (chosen (ltb 1 a) (int-itself (pos (a ^ k))) (chosen (k == 0) (gives int) (gives int)))
+    int_power-itself (negsuc a) k =
+        chosen (ltb 1 (nat_abs (negsuc a)) && ltb 127 k) too_wide
+        (chosen (a == 0) (chosen (is_even k) (gives int) (gives int)) (chosen (is_even k) (int-itself (pos (suc a ^ k))) (int-itself (neg_ℤ (pos (suc a ^ k))))))
+
+    integer_power-itself : (n k : ℤ) → LikeWorked S (integer_power n k) (integer_power n k)
+    integer_power-itself (pos zero) (pos zero) = stays
+    integer_power-itself (pos zero) (pos (suc k)) = int_power-itself (pos zero) (suc k)
+    integer_power-itself (pos (suc n)) (pos k) = int_power-itself (pos (suc n)) k
+    integer_power-itself (negsuc n) (pos k) = int_power-itself (negsuc n) k
+    integer_power-itself (pos zero) (negsuc k) = stays
+    integer_power-itself (pos (suc zero)) (negsuc k) = gives int
+    integer_power-itself (pos (suc (suc n))) (negsuc k) = stays
+    integer_power-itself (negsuc zero) (negsuc k) = int_power-itself (negsuc zero) (suc k)
+    integer_power-itself (negsuc (suc n)) (negsuc k) = stays
+
+    again-like : {x y : Tree} (n : ℤ) → Like S x y
+        → LikeWorked S (elim (gives_int n) [ Gives e ↦ Gives (make names Builtin.Power (x ∷ e ∷ [])) | TooWide ↦ TooWide | Stays ↦ Stays ])
+        (elim (gives_int n) [ Gives e ↦ Gives (make names Builtin.Power (y ∷ e ∷ [])) | TooWide ↦ TooWide | Stays ↦ Stays ])
+    again-like {x} {y} n one = go (gives_int n) (int-itself n)
+      where
+        go : (w : Worked) → LikeWorked S w w
+            → LikeWorked S (elim w [ Gives e ↦ Gives (make names Builtin.Power (x ∷ e ∷ [])) | TooWide ↦ TooWide | Stays ↦ Stays ])
+            (elim w [ Gives e ↦ Gives (make names Builtin.Power (y ∷ e ∷ [])) | TooWide ↦ TooWide | Stays ↦ Stays ])
+        go Stays stays = stays
+        go (Gives e) (gives alike) = gives (make-like S names F Builtin.Power (all_cons one (all_cons alike all_nil)))
+        go TooWide too_wide = too_wide
+
+    power_of-like : {x y : Tree} (k : ℤ) → Like S x y → LikeWorked S (power_of names x k) (power_of names y k)
+    power_of-like (pos zero) one = gives int
+    power_of-like (pos (suc zero)) one = gives one
+    power_of-like (pos (suc (suc k))) int = stays
+    power_of-like (pos (suc (suc k))) str = stays
+    power_of-like (pos (suc (suc k))) (sym s) = stays
+    power_of-like (pos (suc (suc k))) (node h ends) = stays
+    power_of-like (pos (suc (suc k))) (node h (mores x ends)) = stays
+    power_of-like (pos (suc (suc k))) (node h (mores x (mores (int {n = a}) ends))) =
+        branch (LikeWorked S) (is_name-like S names F Builtin.Power h) (again-like (a *ℤ pos (suc (suc k))) x) stays
+    power_of-like (pos (suc (suc k))) (node h (mores x (mores int (mores y l)))) = stays
+    power_of-like (pos (suc (suc k))) (node h (mores x (mores str l))) = stays
+    power_of-like (pos (suc (suc k))) (node h (mores x (mores (sym s) l))) = stays
+    power_of-like (pos (suc (suc k))) (node h (mores x (mores (node g m) l))) = stays
+    power_of-like (negsuc k) int = stays
+    power_of-like (negsuc k) str = stays
+    power_of-like (negsuc k) (sym s) = stays
+    power_of-like (negsuc k) (node h ends) = stays
+    power_of-like (negsuc k) (node h (mores x ends)) = stays
+    power_of-like (negsuc k) (node h (mores x (mores (int {n = a}) ends))) = branch (LikeWorked S) (is_name-like S names F Builtin.Power h) (again-like (a *ℤ negsuc k) x) stays
+    power_of-like (negsuc k) (node h (mores x (mores int (mores y l)))) = stays
+    power_of-like (negsuc k) (node h (mores x (mores str l))) = stays
+    power_of-like (negsuc k) (node h (mores x (mores (sym s) l))) = stays
+    power_of-like (negsuc k) (node h (mores x (mores (node g m) l))) = stays
+
+    -- an integer in front of what is none
+    one_to-like : (n : ℤ) {x y : Tree} → Like S x y → ((m : ℤ) → x ≡ integer m → ⊥) → LikeWorked S (power names (integer n ∷ x ∷ [])) (power names (integer n ∷ y ∷ []))
+    one_to-like n (int {n = m}) none' = absurd (none' m refl)
+    one_to-like (pos zero) str none' = stays
+    one_to-like (pos (suc zero)) str none' = gives int
+    one_to-like (pos (suc (suc n))) str none' = stays
+    one_to-like (negsuc n) str none' = stays
+    one_to-like (pos zero) (sym s) none' = stays
+    one_to-like (pos (suc zero)) (sym s) none' = gives int
+    one_to-like (pos (suc (suc n))) (sym s) none' = stays
+    one_to-like (negsuc n) (sym s) none' = stays
+    one_to-like (pos zero) (node h l) none' = stays
+    one_to-like (pos (suc zero)) (node h l) none' = gives int
+    one_to-like (pos (suc (suc n))) (node h l) none' = stays
+    one_to-like (negsuc n) (node h l) none' = stays
+
+    three : (n : ℤ) {x y : Tree} → Like S x y → (a b : Tree) (as' bs : List Tree) → LikeWorked S (power names (integer n ∷ x ∷ a ∷ as')) (power names (integer n ∷ y ∷ b ∷ bs))
+    three n int a b as' bs = stays
+    three (pos zero) str a b as' bs = stays
+    three (pos zero) (sym s) a b as' bs = stays
+    three (pos zero) (node h l) a b as' bs = stays
+    three (pos (suc zero)) str a b as' bs = stays
+    three (pos (suc zero)) (sym s) a b as' bs = stays
+    three (pos (suc zero)) (node h l) a b as' bs = stays
+    three (pos (suc (suc n))) str a b as' bs = stays
+    three (pos (suc (suc n))) (sym s) a b as' bs = stays
+    three (pos (suc (suc n))) (node h l) a b as' bs = stays
+    three (negsuc n) str a b as' bs = stays
+    three (negsuc n) (sym s) a b as' bs = stays
+    three (negsuc n) (node h l) a b as' bs = stays
+
+    pub power-like : {es fs : List Tree} → LikeList S es fs → LikeWorked S (power names es) (power names fs)
+    power-like all_nil = stays
+    power-like (all_cons int all_nil) = stays
+    power-like (all_cons str all_nil) = stays
+    power-like (all_cons (sym s) all_nil) = stays
+    power-like (all_cons (node h l) all_nil) = stays
+    power-like (all_cons (int {n = n}) (all_cons (int {n = k}) all_nil)) = integer_power-itself n k
+    power-like (all_cons (int {n = n}) (all_cons str all_nil)) = one_to-like n str (λ m e. Prim.cc e)
+    power-like (all_cons (int {n = n}) (all_cons (sym s) all_nil)) = one_to-like n (sym s) (λ m e. Prim.cc e)
+    power-like (all_cons (int {n = n}) (all_cons (node h l) all_nil)) = one_to-like n (node h l) (λ m e. Prim.cc e)
+    power-like (all_cons str (all_cons (int {n = k}) all_nil)) = power_of-like k str
+    power-like (all_cons (sym s) (all_cons (int {n = k}) all_nil)) = power_of-like k (sym s)
+    power-like (all_cons (node h l) (all_cons (int {n = k}) all_nil)) = power_of-like k (node h l)
+    power-like (all_cons str (all_cons str all_nil)) = stays
+    power-like (all_cons str (all_cons (sym s) all_nil)) = stays
+    power-like (all_cons str (all_cons (node h l) all_nil)) = stays
+    power-like (all_cons (sym s) (all_cons str all_nil)) = stays
+    power-like (all_cons (sym s) (all_cons (sym t) all_nil)) = stays
+    power-like (all_cons (sym s) (all_cons (node h l) all_nil)) = stays
+    power-like (all_cons (node h l) (all_cons str all_nil)) = stays
+    power-like (all_cons (node h l) (all_cons (sym t) all_nil)) = stays
+    power-like (all_cons (node h l) (all_cons (node g m) all_nil)) = stays
+    power-like (all_cons int (all_cons int (all_cons x xs))) = stays
+    power-like (all_cons (int {n = n}) (all_cons str (all_cons x xs))) = three n str _ _ _ _
+    power-like (all_cons (int {n = n}) (all_cons (sym s) (all_cons x xs))) = three n (sym s) _ _ _ _
+    power-like (all_cons (int {n = n}) (all_cons (node h l) (all_cons x xs))) = three n (node h l) _ _ _ _
+    power-like (all_cons str (all_cons int (all_cons x xs))) = stays
+    power-like (all_cons str (all_cons str (all_cons x xs))) = stays
+    power-like (all_cons str (all_cons (sym s) (all_cons x xs))) = stays
+    power-like (all_cons str (all_cons (node h l) (all_cons x xs))) = stays
+    power-like (all_cons (sym s) (all_cons int (all_cons x xs))) = stays
+    power-like (all_cons (sym s) (all_cons str (all_cons x xs))) = stays
+    power-like (all_cons (sym s) (all_cons (sym t) (all_cons x xs))) = stays
+    power-like (all_cons (sym s) (all_cons (node h l) (all_cons x xs))) = stays
+    power-like (all_cons (node h l) (all_cons int (all_cons x xs))) = stays
+    power-like (all_cons (node h l) (all_cons str (all_cons x xs))) = stays
+    power-like (all_cons (node h l) (all_cons (sym t) (all_cons x xs))) = stays
+    power-like (all_cons (node h l) (all_cons (node g m) (all_cons x xs))) = stays
