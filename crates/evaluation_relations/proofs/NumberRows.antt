@@ -5,7 +5,7 @@ use Rattle.std.specs.Ordering.{int_eq}
 use Rattle.expr_tree.specs.declared.sym.Sym.{Sym}
 use Rattle.expr_tree.specs.Limits.{in_range}
 use Rattle.expr_tree.specs.Tree.{Tree, integer, string, trees, Trees}
-use Rattle.semantics.specs.Builtin.{Builtin}
+use Rattle.semantics.specs.declared.builtin.Builtin.{Builtin}
 use Rattle.semantics.specs.Names.{Names, make, truth}
 use Rattle.semantics.specs.Worked.{Worked, Stays, Gives, TooWide, gives_int}
 use Rattle.semantics.specs.Numbers.{is_even, minus, subtract, divide, quotient_down, quotient, modulo, parity, absolute, sign, gcd_of, gcd, factorial, integers_in, all_integers, best_of, extreme}

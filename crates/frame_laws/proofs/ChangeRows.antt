@@ -8,7 +8,7 @@ use Rattle.expr_tree.specs.Tree.{Tree, integer, string, symbol, normal, Trees, n
 use Rattle.expr_tree.specs.Order.{same, same_symbol, text_cmp}
 use Rattle.expr_tree.specs.Shapes.{symbol_of}
 use Rattle.expr_tree.specs.Substitution.{among}
-use Rattle.semantics.specs.Builtin.{Builtin}
+use Rattle.semantics.specs.declared.builtin.Builtin.{Builtin}
 use Rattle.semantics.specs.Names.{name, items_of, make}
 use Rattle.semantics.specs.Steps.{ordered}
 use Rattle.semantics.specs.Rule.{Rule, replaces, is_replaced, replace_in, insert_in, insert, remove, key_of}

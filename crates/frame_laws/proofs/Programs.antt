@@ -4,7 +4,7 @@ use Rattle.expr_tree.specs.declared.sym.Sym.{Sym}
 use Rattle.expr_tree.specs.declared.limits.Stop.{Stop}
 use Rattle.expr_tree.specs.Tree.{Tree, integer, string, symbol, normal, Trees, nil, cons}
 use Rattle.expr_tree.specs.Order.{same_symbol}
-use Rattle.semantics.specs.Builtin.{Builtin}
+use Rattle.semantics.specs.declared.builtin.Builtin.{Builtin}
 use Rattle.semantics.specs.Names.{Names, known, is_known, is_name, is_call, items_of, make, role_of}
 use Rattle.expr_tree.specs.Substitution.{Binding}
 use Rattle.semantics.specs.InPlace.{put_in_place}

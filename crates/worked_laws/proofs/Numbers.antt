@@ -3,7 +3,7 @@ use Rattle.std.proofs.Common.{◌≡◌, refl, true, [], ◌∷◌}
 use Rattle.expr_tree.specs.Tree.{Tree}
 use Rattle.expr_tree.specs.declared.limits.Limits.{Limits}
 use Rattle.expr_tree.specs.declared.limits.Stop.{Stop}
-use Rattle.semantics.specs.Builtin.{Builtin}
+use Rattle.semantics.specs.declared.builtin.Builtin.{Builtin}
 use Rattle.semantics.specs.Definitions.{Definitions, empty}
 use Rattle.semantics.specs.Program.{Call, Request}
 use Rattle.semantics.specs.Play.{Reply}

@@ -1,7 +1,7 @@
 -- Quiet applications on a kernel that knows something else.
 use Rattle.std.proofs.Common.{Some, ◌≡◌, refl, true, false, [], ◌∷◌}
 use Rattle.expr_tree.specs.Tree.{call, Tree}
-use Rattle.semantics.specs.Builtin.{Builtin}
+use Rattle.semantics.specs.declared.builtin.Builtin.{Builtin}
 use Rattle.semantics.specs.Definitions.{Definitions, Share, Shared, empty, put}
 use Rattle.semantics.specs.Names.{known}
 use Rattle.semantics.specs.Program.{Mode}
