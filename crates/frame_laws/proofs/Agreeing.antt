@@ -81,6 +81,44 @@ module _ (R : Realm) (shared : List Shared) where
       let c_plain = plain (shared_as c.shared s) E (stored names c s) (ap (λ l. shared_as l s) both.second ∙ free) in
       (d_plain ∙ ((one free).0 ∙ sym c_plain), subst (DefinedIn R w) (sym d_plain) (one free).1))
 
+  -- ---- what is outside a set stays
+
+  abbrev pub Outside : Definitions → World → Definitions → Type 0
+  Outside old w d = (x : Sym) → Origin (Member w x) (stored names d x ≡ stored names old x)
+
+  pub outside_put : (old : Definitions) (w u : World) → grows R w u → (s : Sym) → Member u s → (d : Definitions) (D : Definition) → Outside old w d → Outside old u (put names d s D)
+  outside_put old w u g s s_in d D out x = go (stored_after d s x D) (out x)
+    where
+      go : Origin ((same_symbol s x ≡ false) × (stored names (put names d s D) x ≡ stored names d x)) ((x ≡ s) × (stored names (put names d s D) x ≡ D))
+          → Origin (Member w x) (stored names d x ≡ stored names old x) → Origin (Member u x) (stored names (put names d s D) x ≡ stored names old x)
+      go (new a) o = before (subst (Member u) (sym a.0) s_in)
+      go (before a) (before m) = before (g x m)
+      go (before a) (new e) = new (a.1 ∙ e)
+
+  pub outside_written : (old : Definitions) (w u : World) → grows R w u → (s : Sym) → Member u s → (d : Definitions) (D : Definition) → Outside old w d → Outside old u (written names d s D)
+  unfolding kept_attributes
+  outside_written old w u g s s_in d D out = outside_put old w u g s s_in d (kept_attributes (shared_as d.shared s) D (stored names d s)) out
+
+  pub outside_locals : (old : Definitions) (w : World) (ls : List Local) (d : Definitions) → Each (LocalIn R w) ls → Outside old w d → Outside old w (put_locals names ls d)
+  outside_locals old w [] d all out = out
+  outside_locals old w (l ∷ ls) d all out =
+      outside_locals old w ls (put names d l.symbol (local_definition l)) all.1 (outside_put old w w (same_world R w) l.symbol all.0.0 d (local_definition l) out)
+
+  pub outside_back : (old : Definitions) (w u : World) → grows R w u → (kept : Definitions) (ls : List Local) (d : Definitions) → Each (LocalIn R w) ls → Outside old u d → Outside old u (put_back names kept ls d)
+  outside_back old w u g kept [] d all out = out
+  outside_back old w u g kept (l ∷ ls) d all out =
+      outside_back old w u g kept ls (put names d l.symbol (stored names kept l.symbol)) all.1
+      (outside_put old u u (same_world R u) l.symbol (g l.symbol all.0.0) d (stored names kept l.symbol) out)
+
+  -- locals keep the module number
+  pub locals_number : (ls : List Local) (d : Definitions) → (put_locals names ls d).module_number ≡ d.module_number
+  locals_number [] d = refl
+  locals_number (l ∷ ls) d = locals_number ls (put names d l.symbol (local_definition l))
+
+  pub back_number : (kept : Definitions) (ls : List Local) (d : Definitions) → (put_back names kept ls d).module_number ≡ d.module_number
+  back_number kept [] d = refl
+  back_number kept (l ∷ ls) d = back_number kept ls (put names d l.symbol (stored names kept l.symbol))
+
   -- ---- what is seen
 
   abbrev looked : Option Shared → Definition → Seen

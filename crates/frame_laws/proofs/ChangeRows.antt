@@ -8,7 +8,7 @@ use Rattle.expr_tree.specs.Tree.{Tree, integer, string, symbol, normal, Trees, n
 use Rattle.expr_tree.specs.Order.{same, same_symbol, text_cmp}
 use Rattle.expr_tree.specs.Shapes.{symbol_of}
 use Rattle.expr_tree.specs.Substitution.{among}
-use Rattle.semantics.specs.Builtin.{Builtin}
+use Rattle.semantics.specs.declared.builtin.Builtin.{Builtin}
 use Rattle.semantics.specs.Names.{name, items_of, make}
 use Rattle.semantics.specs.Steps.{ordered}
 use Rattle.semantics.specs.Rule.{Rule, replaces, is_replaced, replace_in, insert_in, insert, remove, key_of}
@@ -17,7 +17,7 @@ use Rattle.semantics.specs.Program.{Prog, Done, Look, Put, Seen}
 use Rattle.semantics.specs.Assign.{Form, ToHead, ToItems, ToTag, Place, Own, Down, Up, Target, is_wrapper, inner, inner_first, add_symbol, item_symbols, all_at, at_head, is_that, tag_place, places_in, places, asked_symbols, Why, refusal, attached}
 use Rattle.semantics.specs.Changes.{see_all, is_protected, protected_in, any_shared, unless_item, noting, attach_all, attaches_shared, assign, set, set_delayed, tag_set, tag_set_delayed, holders, holds, holding, any_protected, without_left, take_away, unset_from, unset, change_own, change, old_value, new_value, plus_int, step_by, change_with, subtract_from, unless_shared_symbol, write, cleared, nothing_left, clear, clear_all, with_attributes, without_attributes, named_attributes, change_attributes, protect, attributes_row}
 use Rattle.frame_laws.proofs.Inside.{both, Each, Opt, appended, items, symbol_in, in_order}
-use Rattle.frame_laws.proofs.Programs.{Realm, Has, HasAll, RuleIn, DefinedIn, SeenBoth, Both, done, ask, look, put, edit, check, moded, grows, same_world, later_in, later_defined, Later, from_later, now, branch, option_both, made}
+use Rattle.frame_laws.proofs.Programs.{before, Realm, Has, HasAll, RuleIn, DefinedIn, SeenBoth, Both, done, ask, look, put, edit, check, moded, grows, same_world, later_in, later_defined, Later, from_later, now, branch, option_both, made}
 use Rattle.frame_laws.proofs.ControlRows.{failed_both, null_both}
 use Rattle.frame_laws.proofs.FirstSteps.{left_side_both}
 
@@ -228,7 +228,7 @@ module _ (R : Realm) where
   take_away_both : Table → (left : Tree) (es : List (Sym × Seen)) (w : World) (p q : Prog) → Each (EntryIn w) es → Later R w p q → Both R w (take_away left es p) (take_away left es q)
   take_away_both t left [] w p q all next = now R w next
   take_away_both t left (e ∷ es) w p q all next =
-      put t (without_left_in w left e.1.definition all.0.1) (λ u g s_in. take_away_both t left es u p q (later_entries w u g es all.1) (from_later R w u g next))
+      put t (before all.0.0) (without_left_in w left e.1.definition all.0.1) (λ u g s_in. take_away_both t left es u p q (later_entries w u g es all.1) (from_later R w u g next))
 
   unset_from_both : Table → (w : World) (left : Tree) (es : List (Sym × Seen)) → Each (EntryIn w) es → Both R w (unset_from names left es) (unset_from names left es)
   unset_from_both t w left [] all = failed_both R w t
@@ -307,8 +307,8 @@ module _ (R : Realm) where
   abbrev pub Keeping : (Definition → Definition) → Type 0
   Keeping f = (w : World) (d : Definition) → DefinedIn R w d → DefinedIn R w (f d)
 
-  write_both : Table → (w : World) (s : Sym) (f : Definition → Definition) (d : Definition) → Keeping f → DefinedIn R w d → Both R w (write names s f d) (write names s f d)
-  write_both t w s f d keeps one = branch R w (is_protected d) (failed_both R w t) (put t (keeps w d one) (λ u g s_in. null_both R u t))
+  write_both : Table → (w : World) (s : Sym) → Member w s → (f : Definition → Definition) (d : Definition) → Keeping f → DefinedIn R w d → Both R w (write names s f d) (write names s f d)
+  write_both t w s mine f d keeps one = branch R w (is_protected d) (failed_both R w t) (put t (before mine) (keeps w d one) (λ u g s_in. null_both R u t))
 
   cleared_in : Keeping cleared
   cleared_in w d one = record { own = tt; downs = tt; ups = tt }
@@ -324,7 +324,7 @@ module _ (R : Realm) where
 
   pub clear_both : Table → (w : World) (p q : Prog) (es : List Tree) → Later R w p q → HasAll R w es → Both R w (clear names p es) (clear names q es)
   clear_both t w p q (symbol s ∷ []) next all =
-      look all.0 (λ x y seen. unshared_or w noting (λ p. refl) (λ p q. moded) (write names s cleared) x y seen (write_both t w s cleared x.definition cleared_in))
+      look all.0 (λ x y seen. unshared_or w noting (λ p. refl) (λ p q. moded) (write names s cleared) x y seen (write_both t w s all.0 cleared x.definition cleared_in))
   clear_both t w p q _ next all = now R w next
 
   unless_shared_or : (w : World) (k : Definition → Prog) (x y : Seen) → SeenBoth R w x y → (DefinedIn R w x.definition → Both R w (k x.definition) (k x.definition))
@@ -333,7 +333,7 @@ module _ (R : Realm) where
 
   pub clear_all_both : Table → (w : World) (p q : Prog) (es : List Tree) → Later R w p q → HasAll R w es → Both R w (clear_all names p es) (clear_all names q es)
   clear_all_both t w p q (symbol s ∷ []) next all =
-      look all.0 (λ x y seen. unless_shared_or w (write names s nothing_left) x y seen (write_both t w s nothing_left x.definition nothing_left_in))
+      look all.0 (λ x y seen. unless_shared_or w (write names s nothing_left) x y seen (write_both t w s all.0 nothing_left x.definition nothing_left_in))
   clear_all_both t w p q _ next all = now R w next
 
   pub change_attributes_both : Table → (f : Attributes → Definition → Definition) → ((a : Attributes) → Keeping (f a)) → (w : World) (p q : Prog) (es : List Tree) → Later R w p q → HasAll R w es
@@ -344,12 +344,12 @@ module _ (R : Realm) where
           (elim o [ None ↦ p | Some a ↦ Look s (λ seen. unless_shared_symbol names (is_some seen.shared) (write names s (f a) seen.definition)) ])
           (elim o [ None ↦ q | Some a ↦ Look s (λ seen. unless_shared_symbol names (is_some seen.shared) (write names s (f a) seen.definition)) ])
       go None = now R w next
-      go (Some a) = look all.0 (λ x y seen. unless_shared_or w (write names s (f a)) x y seen (write_both t w s (f a) x.definition (keeps a)))
+      go (Some a) = look all.0 (λ x y seen. unless_shared_or w (write names s (f a)) x y seen (write_both t w s all.0 (f a) x.definition (keeps a)))
   change_attributes_both t f keeps w p q _ next all = now R w next
 
   pub protect_both : Table → (f : Definition → Definition) → Keeping f → (w : World) (p q : Prog) (es : List Tree) → Later R w p q → HasAll R w es → Both R w (protect names f p es) (protect names f q es)
   protect_both t f keeps w p q (symbol s ∷ []) next all =
-      look all.0 (λ x y seen. unless_shared_or w (λ d. Put s (f d) (Done (name names Builtin.Null))) x y seen (λ one. put t (keeps w x.definition one) (λ u g s_in. null_both R u t)))
+      look all.0 (λ x y seen. unless_shared_or w (λ d. Put s (f d) (Done (name names Builtin.Null))) x y seen (λ one. put t (before all.0) (keeps w x.definition one) (λ u g s_in. null_both R u t)))
   protect_both t f keeps w p q _ next all = now R w next
 
   names_in : Table → (w : World) (a : Attributes) → HasAll R w (map (name names) a)

@@ -5,7 +5,7 @@ use Rattle.std.specs.Ordering.{int_eq}
 use Rattle.expr_tree.specs.declared.sym.Sym.{Sym}
 use Rattle.expr_tree.specs.Tree.{Tree, integer, string, symbol, normal, elements}
 use Rattle.expr_tree.specs.Order.{same}
-use Rattle.semantics.specs.Builtin.{Builtin}
+use Rattle.semantics.specs.declared.builtin.Builtin.{Builtin}
 use Rattle.semantics.specs.Names.{is_name, is_call, items_of}
 use Rattle.semantics.specs.Definitions.{Share}
 use Rattle.semantics.specs.Program.{Prog, Done}

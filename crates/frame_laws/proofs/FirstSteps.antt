@@ -2,7 +2,7 @@
 use Rattle.std.proofs.Common.{subst, List, [], ◌∷◌, ◌++◌, Some, None}
 use Rattle.std.specs.Prelude.{◌||◌}
 use Rattle.expr_tree.specs.Tree.{Tree, integer, string, symbol, normal, elements, call}
-use Rattle.semantics.specs.Builtin.{Builtin}
+use Rattle.semantics.specs.declared.builtin.Builtin.{Builtin}
 use Rattle.semantics.specs.Names.{make}
 use Rattle.semantics.specs.Definitions.{Attributes, has}
 use Rattle.semantics.specs.Program.{Prog}

@@ -1,5 +1,5 @@
 -- One induction: evaluations of an expression of a set, from definitions that agree on it, end alike unless `used` becomes true.
-use Rattle.std.proofs.Common.{◌≡◌, refl, ap, subst, ℕ, zero, suc, ◌+◌, Bool, true, false, ltb, List, Option, Some, None, true≢false, sym}
+use Rattle.std.proofs.Common.{◌≤◌, arith, ◌≡◌, refl, ap, subst, ℕ, zero, suc, ◌+◌, Bool, true, false, ltb, List, Option, Some, None, true≢false, sym}
 use Rattle.std.specs.Prelude.{◌==◌}
 use Rattle.expr_tree.specs.declared.limits.Limits.{Limits}
 use Rattle.expr_tree.specs.declared.limits.Stop.{Stop}
@@ -11,9 +11,9 @@ use Rattle.semantics.specs.Play.{Setting, State, End, Value, Stopped, Quit, Clos
 use Rattle.language_laws.proofs.Modes.{Used, ended, Sticky, StickyEnd, ending-sticks, on_value-sticks, run-sticks, judged-sticks, passes-sticks, eval_at-sticks}
 use Rattle.frame_laws.proofs.Programs.{Realm, Has, Both, done, stop, leaves, ask, within, look, put, edit, fresh, turn, check, moded, grows, same_world, later}
 use Rattle.frame_laws.proofs.Passes.{pass_both}
-use Rattle.frame_laws.proofs.Agreeing.{Agree, written_agree, seen_both, locals_agree, backs_agree, stays_in, none_seen}
+use Rattle.frame_laws.proofs.Agreeing.{Outside, outside_written, outside_locals, outside_back, locals_number, back_number, Agree, written_agree, seen_both, locals_agree, backs_agree, stays_in, none_seen}
 
-module _ (R : Realm) (may : (x : R.World) → R.Numbered x) (shared : List Shared) (shown : Tree → List ℕ) (mode : Mode) (kernel : ℕ) (limits : Limits) where
+module _ (R : Realm) (may : (x : R.World) → R.Numbered x) (shared : List Shared) (shown : Tree → List ℕ) (mode : Mode) (kernel : ℕ) (limits : Limits) (first second : Definitions) where
   open R use {names, World, Member, Table}
 
   abbrev pub set : Setting
@@ -23,6 +23,9 @@ module _ (R : Realm) (may : (x : R.World) → R.Numbered x) (shared : List Share
     pub definitions : Agree R shared w s.definitions t.definitions
     pub steps : s.steps ≡ t.steps
     pub used : s.used ≡ t.used
+    -- numbers rise from the first; what is outside the set is as it was
+    pub start : R.first_number ≤ s.definitions.module_number
+    pub outside : Outside R shared first w s.definitions × Outside R shared second w t.definitions
 
   abbrev pub EndIn : World → End → Type 0
   EndIn w (Value v) = Has R w v
@@ -63,7 +66,7 @@ module _ (R : Realm) (may : (x : R.World) → R.Numbered x) (shared : List Share
   stepped_follows : (w : World) (b c : Bool) (s t : State) (j k : State → Play) → b ≡ c → States w s t
       → ((s' t' : State) → States w s' t' → Follows w (j s') (k t')) → Follows w (stepped b s j) (stepped c t k)
   stepped_follows w true true s t j k e states next =
-      next (record s { steps = s.steps + 1 }) (record t { steps = t.steps + 1 }) (record { definitions = states.definitions; steps = ap (λ n. n + 1) states.steps; used = states.used })
+      next (record s { steps = s.steps + 1 }) (record t { steps = t.steps + 1 }) (record { definitions = states.definitions; steps = ap (λ n. n + 1) states.steps; used = states.used; start = states.start; outside = states.outside })
   stepped_follows w true false s t j k e states next = absurd (true≢false e)
   stepped_follows w false true s t j k e states next = absurd (true≢false (sym e))
   stepped_follows w false false s t j k e states next = here w (Stopped Stop.Steps) s t tt states
@@ -82,14 +85,14 @@ module _ (R : Realm) (may : (x : R.World) → R.Numbered x) (shared : List Share
   after_agree w d c both = record { first = both.first; second = both.second; number = ap (λ n. n + 1) both.number; same = both.same; closed = both.closed }
 
   numbered_follows : (w : World) (b c : Bool) (s t : State) (j k : ℕ → State → Play) → b ≡ c → States w s t
-      → ((m : ℕ) (s' t' : State) → States w s' t' → Follows w (j m s') (k m t')) → Follows w (if_number_left b s j) (if_number_left c t k)
+      → ((m : ℕ) → R.first_number ≤ m → (s' t' : State) → States w s' t' → Follows w (j m s') (k m t')) → Follows w (if_number_left b s j) (if_number_left c t k)
   numbered_follows w true true s t j k e states next = here w (Stopped Stop.Range) s t tt states
   numbered_follows w true false s t j k e states next = absurd (true≢false e)
   numbered_follows w false true s t j k e states next = absurd (true≢false (sym e))
   numbered_follows w false false s t j k e states next =
       subst (λ n. Follows w (j s.definitions.module_number (with_definitions (after_number s.definitions) s)) (k n (with_definitions (after_number t.definitions) t))) states.definitions.number
-      (next s.definitions.module_number (with_definitions (after_number s.definitions) s) (with_definitions (after_number t.definitions) t)
-      (record { definitions = after_agree w s.definitions t.definitions states.definitions; steps = states.steps; used = states.used }))
+      (next s.definitions.module_number states.start (with_definitions (after_number s.definitions) s) (with_definitions (after_number t.definitions) t)
+      (record { definitions = after_agree w s.definitions t.definitions states.definitions; steps = states.steps; used = states.used; start = omega (arith, states.start); outside = states.outside }))
 
   -- related programs from states that agree end alike
   run_follows : (ev : Evaluator) → Sticky ev → Follow ev → {w : World} {p q : Prog} → Both R w p q → (s t : State) → States w s t → Follows w (run set ev p s) (run set ev q t)
@@ -110,18 +113,34 @@ module _ (R : Realm) (may : (x : R.World) → R.Numbered x) (shared : List Share
         definitions = backs_agree R shared w u g s.definitions t.definitions states.definitions ls s'.definitions t'.definitions states'.definitions locals;
         steps = states'.steps;
         used = states'.used;
+        start = subst (λ n. R.first_number ≤ n) (sym (back_number R shared s.definitions ls s'.definitions)) states'.start;
+        outside = (
+          outside_back R shared first w u g s.definitions ls s'.definitions locals states'.outside.0,
+          outside_back R shared second w u g t.definitions ls t'.definitions locals states'.outside.1,
+        );
       }))
       (follow w e (with_locals names ls s) (with_locals names ls t) one
-      (record { definitions = locals_agree R shared w ls s.definitions t.definitions states.definitions locals; steps = states.steps; used = states.used }))
-  run_follows ev sticky follow {w} (look {s = a} s_in next) s t states =
-      run_follows ev sticky follow (next _ _ (seen_both R shared w s.definitions t.definitions a states.definitions s_in)) s t states
-  run_follows ev sticky follow {w} (put {s = a} {d = d} table defined next) s t states =
-      later_ends w (R.extended w a table) (R.kept w a table)
-      (run_follows ev sticky follow (next (R.extended w a table) (R.kept w a table) (R.added w a table)) _ _
       (record {
-        definitions = written_agree R shared w (R.extended w a table) (R.kept w a table) a (R.only w a table) s.definitions t.definitions d d states.definitions (λ free. (refl, defined));
+        definitions = locals_agree R shared w ls s.definitions t.definitions states.definitions locals;
         steps = states.steps;
         used = states.used;
+        start = subst (λ n. R.first_number ≤ n) (sym (locals_number R shared ls s.definitions)) states.start;
+        outside = (outside_locals R shared first w ls s.definitions locals states.outside.0, outside_locals R shared second w ls t.definitions locals states.outside.1);
+      }))
+  run_follows ev sticky follow {w} (look {s = a} s_in next) s t states =
+      run_follows ev sticky follow (next _ _ (seen_both R shared w s.definitions t.definitions a states.definitions s_in)) s t states
+  run_follows ev sticky follow {w} (put {s = a} {d = d} table origin defined next) s t states =
+      later_ends w (R.extended w a table origin) (R.kept w a table origin)
+      (run_follows ev sticky follow (next (R.extended w a table origin) (R.kept w a table origin) (R.added w a table origin)) _ _
+      (record {
+        definitions = written_agree R shared w (R.extended w a table origin) (R.kept w a table origin) a (R.only w a table origin) s.definitions t.definitions d d states.definitions (λ free. (refl, defined));
+        steps = states.steps;
+        used = states.used;
+        start = states.start;
+        outside = (
+          outside_written R shared first w (R.extended w a table origin) (R.kept w a table origin) a (R.added w a table origin) s.definitions d states.outside.0,
+          outside_written R shared second w (R.extended w a table origin) (R.kept w a table origin) a (R.added w a table origin) t.definitions d states.outside.1,
+        );
       }))
   run_follows ev sticky follow {w} (edit {s = a} {f = f} table s_in keeps next) s t states =
       let seen_alike = seen_both R shared w s.definitions t.definitions a states.definitions s_in in
@@ -132,10 +151,15 @@ module _ (R : Realm) (may : (x : R.World) → R.Numbered x) (shared : List Share
             (λ free. (ap f (seen_alike.same (none_seen R shared w s.definitions t.definitions a states.definitions free)), keeps (seen names s.definitions a).definition (seen_alike.defined (none_seen R shared w s.definitions t.definitions a states.definitions free))));
         steps = states.steps;
         used = states.used;
+        start = states.start;
+        outside = (
+          outside_written R shared first w w (same_world R w) a s_in s.definitions (f (seen names s.definitions a).definition) states.outside.0,
+          outside_written R shared second w w (same_world R w) a s_in t.definitions (f (seen names t.definitions a).definition) states.outside.1,
+        );
       })
   run_follows ev sticky follow {w} (fresh {k = k} {l = l} numbered next) s t states =
       numbered_follows w _ _ s t (λ m s'. run set ev (k m) s') (λ m t'. run set ev (l m) t') (ap (λ n. n == last_number) states.definitions.number) states
-      (λ m s' t' states'. run_follows ev sticky follow (next m) s' t' states')
+      (λ m le s' t' states'. run_follows ev sticky follow (next m le) s' t' states')
   run_follows ev sticky follow {w} (turn {p = p} {q = q} next) s t states =
       with_step_follows w s t (λ s'. run set ev p s') (λ t'. run set ev q t') states (λ s' t' states'. run_follows ev sticky follow next s' t' states')
   run_follows ev sticky follow {w} (check {e = e} {p = p} {q = q} one next) s t states =

@@ -1,12 +1,12 @@
 -- The law of the frame: a closed set with what Module makes is a set that evaluations keep to.
-use Rattle.std.proofs.Common.{◌≡◌, refl, sym, ap, subst, ◌∙◌, Bool, true, false, List, [], ◌∷◌, ◌++◌, Option, Some, None, true≢false, eqb-true}
+use Rattle.std.proofs.Common.{ℕ, ◌≤◌, arith, le_refl, ◌≡◌, refl, sym, ap, subst, ◌∙◌, Bool, true, false, List, [], ◌∷◌, ◌++◌, Option, Some, None, true≢false, eqb-true}
 use Rattle.std.specs.Prelude.{◌&&◌, ◌||◌, ◌==◌}
 use Rattle.expr_tree.proofs.Same.{symbol_eq-Decides}
 use Rattle.expr_tree.specs.declared.sym.Sym.{Sym}
 use Rattle.expr_tree.specs.Tree.{Tree, integer, string, symbol, normal, Trees, nil, cons}
 use Rattle.expr_tree.specs.Order.{same_symbol}
 use Rattle.expr_tree.specs.Substitution.{among}
-use Rattle.semantics.specs.Builtin.{Builtin}
+use Rattle.semantics.specs.declared.builtin.Builtin.{Builtin}
 use Rattle.semantics.specs.Names.{Names, IsNames, known, is_known, role_of}
 use Rattle.semantics.specs.Rule.{Rule}
 use Rattle.semantics.specs.Definitions.{Definition, Definitions, Shared, shared_as, stored}
@@ -15,10 +15,10 @@ use Rattle.semantics.specs.Eval.{Event, Evaluation, if_matched, over, eval, same
 use Rattle.journal.specs.Places.{is_some}
 use Rattle.journal.specs.Closure.{symbols_of, symbols_of_items, symbols_of_own, symbols_of_rules, symbols_of_definition, is_row, is_shared}
 use Rattle.language_laws.proofs.Modes.{Used, ended, called}
-use Rattle.frame_laws.specs.Frame.{IsClosed, AgreeOn, StandsIn, WentAlike, Members, Frame}
+use Rattle.frame_laws.specs.Frame.{IsClosed, AgreeOn, StandsIn, Untouched, WentAlike, Members, Frame}
 use Rattle.frame_laws.proofs.Inside.{Each, Opt, In, Ins}
 use Rattle.frame_laws.proofs.Programs.{Origin, before, new, Realm, DefinedIn, grows}
-use Rattle.frame_laws.proofs.Agreeing.{Agree}
+use Rattle.frame_laws.proofs.Agreeing.{Agree, Outside}
 use Rattle.frame_laws.proofs.Following.{Follows, quiet, used, eval_at_follows}
 
 -- ---- members of lists of symbols
@@ -37,7 +37,7 @@ or_right false b e = e
 among_first : (s : Sym) (ss : List Sym) → among s (s ∷ ss) ≡ true
 among_first s ss = or_left (same_symbol s s) (among s ss) (same_itself s)
 
-among_left : (s : Sym) (ss ts : List Sym) → among s ss ≡ true → among s (ss ++ ts) ≡ true
+pub among_left : (s : Sym) (ss ts : List Sym) → among s ss ≡ true → among s (ss ++ ts) ≡ true
 among_left s [] ts e = absurd (true≢false (sym e))
 among_left s (x ∷ ss) ts e = go (same_symbol s x) refl e (among_left s ss ts)
   where
@@ -45,7 +45,7 @@ among_left s (x ∷ ss) ts e = go (same_symbol s x) refl e (among_left s ss ts)
     go true is e rest = or_left (same_symbol s x) (among s (ss ++ ts)) is
     go false is e rest = or_right (same_symbol s x) (among s (ss ++ ts)) (rest e)
 
-among_right : (s : Sym) (ss ts : List Sym) → among s ts ≡ true → among s (ss ++ ts) ≡ true
+pub among_right : (s : Sym) (ss ts : List Sym) → among s ts ≡ true → among s (ss ++ ts) ≡ true
 among_right s [] ts e = e
 among_right s (x ∷ ss) ts e = or_right (same_symbol s x) (among s (ss ++ ts)) (among_right s ss ts e)
 
@@ -98,38 +98,48 @@ known_is names r s e =
     let two = both_true (s.number == 0) (s.base == names.place r) e in
     λ i. record { base = eqb-true s.base (names.place r) two.1 i; number = eqb-true s.number 0 two.0 i }
 
-module _ (names : Names) (is : IsNames names) (C : Sym → Type 0) (closed : (s t : Sym) → C s → is_row names s ≡ true → is_row names t ≡ true → C t) where
+module _ (names : Names) (is : IsNames names) (C : Sym → Type 0) (closed : (s t : Sym) → C s → is_row names s ≡ true → is_row names t ≡ true → C t) (first : ℕ) where
   abbrev WholeTable : Type 0
   WholeTable = (r : Builtin) → C (known names r)
 
-  -- the set, and what was made
+  -- the set, and what was made: members of it, or symbols with the first number or a later one
   data Extension : Type 0 where
     start : Extension
-    also : Extension → Sym → WholeTable → Extension
+    also : (w : Extension) (s : Sym) → WholeTable → Origin (C s) (first ≤ s.number) → Extension
 
   abbrev Inhabits : Extension → Sym → Type 0
   Inhabits start s = C s
-  Inhabits (also w a t) s = Origin (Inhabits w s) (s ≡ a)
+  Inhabits (also w a t o) s = Origin (Inhabits w s) (s ≡ a)
+
+  inhabits_from : (w : Extension) (s : Sym) → Inhabits w s → Origin (C s) (first ≤ s.number)
+  inhabits_from start s s_in = before s_in
+  inhabits_from (also w a t o) s (before s_in) = inhabits_from w s s_in
+  inhabits_from (also w a t o) s (new is) = subst (λ x. Origin (C x) (first ≤ x.number)) (sym is) o
+
+  comes_from : (w : Extension) (s : Sym) → Origin (Inhabits w s) (first ≤ s.number) → Origin (C s) (first ≤ s.number)
+  comes_from w s (before s_in) = inhabits_from w s s_in
+  comes_from w s (new le) = new le
 
   whole_table : (s : Sym) → C s → is_row names s ≡ true → WholeTable
   whole_table s s_in e r = closed s (known names r) s_in e (is_row-known names is r)
 
   knows_table : (w : Extension) → WholeTable → (r : Builtin) → Inhabits w (known names r)
   knows_table start t r = t r
-  knows_table (also w a u) t r = before (knows_table w t r)
+  knows_table (also w a u o) t r = before (knows_table w t r)
 
   tabled_by : (w : Extension) (r : Builtin) (s : Sym) → Inhabits w s → is_known names r s ≡ true → WholeTable
   tabled_by start r s s_in e = whole_table s s_in (ap (is_row names) (known_is names r s e) ∙ is_row-known names is r)
-  tabled_by (also w a t) r s s_in e = t
+  tabled_by (also w a t o) r s s_in e = t
 
   role_tabled : (w : Extension) (r : Builtin) (s : Sym) → Inhabits w s → role_of names s ≡ Some r → WholeTable
   role_tabled start r s s_in e = whole_table s s_in (ap is_some e)
-  role_tabled (also w a t) r s s_in e = t
+  role_tabled (also w a t o) r s s_in e = t
 
   abbrev realm : Realm
   realm =
       record {
         names = names;
+        first_number = first;
         World = Extension;
         Member = Inhabits;
         Table = WholeTable;
@@ -137,10 +147,10 @@ module _ (names : Names) (is : IsNames names) (C : Sym → Type 0) (closed : (s 
         knows = knows_table;
         tabled = tabled_by;
         has_role = role_tabled;
-        extended = also;
-        kept = λ w s t x x_in. before x_in;
-        added = λ w s t. new refl;
-        only = λ w s t x x_in. x_in;
+        extended = λ w s t o. also w s t (comes_from w s o);
+        kept = λ w s t o x x_in. before x_in;
+        added = λ w s t o. new refl;
+        only = λ w s t o x x_in. x_in;
       }
 
   defined_at : (d : Definition) → AllAmong C (symbols_of_definition d) → DefinedIn realm start d
@@ -187,10 +197,23 @@ used_over (called {c = c} {s = s} {k = k} h next) (a ∷ rest) = go (same_call a
     go true later = later
     go false later = h
 
-alike_over : (names : Names) (is : IsNames names) (C : Sym → Type 0) (closed : (s t : Sym) → C s → is_row names s ≡ true → is_row names t ≡ true → C t) (shared : List Shared) (set : Setting) (p q : Play)
-    → (events : List Event) → (over p events).used ≡ false → Follows (realm names is C closed) (λ x. tt) shared set.shown set.mode set.kernel set.limits start p q
-    → WentAlike names C events (over p events) (over q events)
-alike_over names is C closed shared set p q events free (quiet {o = o} {s = s} {t = t} u g end states) =
+untouched_by : (names : Names) (is : IsNames names) (C : Sym → Type 0) (closed : (s t : Sym) → C s → is_row names s ≡ true → is_row names t ≡ true → C t) (first : ℕ) (shared : List Shared) (d after : Definitions)
+    → first ≡ d.module_number → (w : Extension names is C closed first) → Outside (realm names is C closed first) shared d w after → Untouched names C d after
+untouched_by names is C closed first shared d after same w out s apart less = go (out s)
+  where
+    not_made : Origin (C s) (first ≤ s.number) → ⊥
+    not_made (before s_in) = apart s_in
+    not_made (new le) = omega (arith, le, less, same)
+
+    go : Origin (Inhabits names is C closed first w s) (stored names after s ≡ stored names d s) → stored names after s ≡ stored names d s
+    go (before s_in) = absurd (not_made (inhabits_from names is C closed first w s s_in))
+    go (new e) = e
+
+alike_over : (names : Names) (is : IsNames names) (C : Sym → Type 0) (closed : (s t : Sym) → C s → is_row names s ≡ true → is_row names t ≡ true → C t) (d c : Definitions) → d.module_number ≡ c.module_number
+    → (set : Setting) (p q : Play) (events : List Event) → (over p events).used ≡ false
+    → Follows (realm names is C closed d.module_number) (λ x. tt) d.shared set.shown set.mode set.kernel set.limits d c start p q
+    → WentAlike names C d c events (over p events) (over q events)
+alike_over names is C closed d c same set p q events free (quiet {o = o} {s = s} {t = t} u g end states) =
     record {
       end = o;
       first = refl;
@@ -198,18 +221,29 @@ alike_over names is C closed shared set p q events free (quiet {o = o} {s = s} {
       steps = states.steps;
       used = states.used;
       no_call = (refl, refl);
-      after = agree_after names is C closed shared u g s.definitions t.definitions states.definitions;
+      after = agree_after names is C closed d.module_number d.shared u g s.definitions t.definitions states.definitions;
+      untouched = (
+        untouched_by names is C closed d.module_number d.shared d s.definitions refl u states.outside.0,
+        untouched_by names is C closed d.module_number d.shared c t.definitions same u states.outside.1,
+      );
     }
-alike_over names is C closed shared set p q events free (used h) = absurd (true≢false (sym (used_over h events) ∙ free))
+alike_over names is C closed d c same set p q events free (used h) = absurd (true≢false (sym (used_over h events) ∙ free))
 
 one_way : (set : Setting) → IsNames set.names → (C : Sym → Type 0) (d c : Definitions) → IsClosed set.names d C → AgreeOn set.names C d c
     → (e : Tree) (events : List Event) → StandsIn C e → (eval set d e events).used ≡ false
-    → WentAlike set.names C events (eval set d e events) (eval set c e events)
+    → WentAlike set.names C d c events (eval set d e events) (eval set c e events)
 unfolding eval
 one_way set is C d c close one e events stands free =
-    alike_over set.names is C close.table d.shared set (whole set d e) (whole set c e) events free
-    (eval_at_follows (realm set.names is C close.table) (λ x. tt) d.shared set.shown set.mode set.kernel set.limits set.limits.recursion start e (begun d) (begun c) (stands_in C e stands)
-    (record { definitions = agree_at set.names is C close.table d c close one; steps = refl; used = refl }))
+    alike_over set.names is C close.table d c one.number set (whole set d e) (whole set c e) events free
+    (eval_at_follows (realm set.names is C close.table d.module_number) (λ x. tt) d.shared set.shown set.mode set.kernel set.limits d c set.limits.recursion start e (begun d) (begun c)
+    (stands_in C e stands)
+    (record {
+      definitions = agree_at set.names is C close.table d.module_number d c close one;
+      steps = refl;
+      used = refl;
+      start = le_refl d.module_number;
+      outside = (λ x. new refl, λ x. new refl);
+    }))
 
 -- ---- the other way round
 
@@ -228,8 +262,8 @@ closed_turned names C d c close one =
       table = close.table;
     }
 
-went_turned : (names : Names) (C : Sym → Type 0) (events : List Event) (a b : Evaluation) → WentAlike names C events a b → WentAlike names C events b a
-went_turned names C events a b went =
+went_turned : (names : Names) (C : Sym → Type 0) (d c : Definitions) (events : List Event) (a b : Evaluation) → WentAlike names C d c events a b → WentAlike names C c d events b a
+went_turned names C d c events a b went =
     record {
       end = went.end;
       first = went.second;
@@ -238,17 +272,18 @@ went_turned names C events a b went =
       used = sym went.used;
       no_call = (went.no_call.1, went.no_call.0);
       after = turned names C a.definitions b.definitions went.after;
+      untouched = (went.untouched.1, went.untouched.0);
     }
 
 pub framed : (set : Setting) → IsNames set.names → (C : Sym → Type 0) (d c : Definitions) → IsClosed set.names d C → AgreeOn set.names C d c
     → (e : Tree) (events : List Event) → StandsIn C e → ((eval set d e events).used && (eval set c e events).used) ≡ false
-    → WentAlike set.names C events (eval set d e events) (eval set c e events)
+    → WentAlike set.names C d c events (eval set d e events) (eval set c e events)
 framed set is C d c close one e events stands free = go (eval set d e events).used (eval set c e events).used refl refl free
   where
-    go : (a b : Bool) → (eval set d e events).used ≡ a → (eval set c e events).used ≡ b → (a && b) ≡ false → WentAlike set.names C events (eval set d e events) (eval set c e events)
+    go : (a b : Bool) → (eval set d e events).used ≡ a → (eval set c e events).used ≡ b → (a && b) ≡ false → WentAlike set.names C d c events (eval set d e events) (eval set c e events)
     go false b x y free = one_way set is C d c close one e events stands x
     go true false x y free =
-        went_turned set.names C events (eval set c e events) (eval set d e events)
+        went_turned set.names C c d events (eval set c e events) (eval set d e events)
         (one_way set is C c d (closed_turned set.names C d c close one) (turned set.names C d c one) e events stands y)
     go true true x y free = absurd (true≢false free)
 

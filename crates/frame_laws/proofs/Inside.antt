@@ -6,7 +6,7 @@ use Rattle.std.specs.Ordering.{is_le}
 use Rattle.expr_tree.specs.declared.sym.Sym.{Sym}
 use Rattle.expr_tree.specs.Tree.{Tree, integer, string, symbol, normal, Trees, nil, cons, elements, trees, call}
 use Rattle.expr_tree.specs.Order.{tree_cmp, same_symbol}
-use Rattle.semantics.specs.Builtin.{Builtin}
+use Rattle.semantics.specs.declared.builtin.Builtin.{Builtin}
 use Rattle.semantics.specs.Names.{Names, known, name, is_known, is_name, is_call, items_of, head_of, make}
 use Rattle.semantics.specs.Steps.{splice, unwrapped, strip, is_call_of, flatten_item, flatten_items, flatten, put_in, ordered, first_or, rest_of, heads_of, tails_of, threads, thread, first_length, all_of_length}
 use Rattle.expr_tree.specs.Shapes.{symbol_of}

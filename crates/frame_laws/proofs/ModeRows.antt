@@ -3,7 +3,7 @@ use Rattle.std.proofs.Common.{Bool, true, false, List, [], ◌∷◌, length, Op
 use Rattle.std.specs.Prelude.{leb, ◌&&◌, not}
 use Rattle.expr_tree.specs.declared.sym.Sym.{Sym}
 use Rattle.expr_tree.specs.Tree.{Tree, normal}
-use Rattle.semantics.specs.Builtin.{Builtin}
+use Rattle.semantics.specs.declared.builtin.Builtin.{Builtin}
 use Rattle.semantics.specs.Names.{is_call, items_of}
 use Rattle.semantics.specs.Program.{Prog, Moded, Service}
 use Rattle.semantics.specs.Control.{failed}

@@ -6,7 +6,7 @@ use Rattle.expr_tree.specs.declared.sym.Sym.{Sym}
 use Rattle.expr_tree.specs.Limits.{in_range}
 use Rattle.expr_tree.specs.Tree.{Tree, integer, string, symbol, normal, nil, cons, trees}
 use Rattle.expr_tree.specs.Order.{same}
-use Rattle.semantics.specs.Builtin.{Builtin}
+use Rattle.semantics.specs.declared.builtin.Builtin.{Builtin}
 use Rattle.semantics.specs.Names.{Names, known, is_name, is_call, items_of, make, truth}
 use Rattle.semantics.specs.Worked.{Worked, Stays, Gives, TooWide, gives_int, all_in_range}
 use Rattle.semantics.specs.Numbers.{Part, add_part, Gathered, numbers_of, written, assembled, term_in, term, times, write_term, gather_sum, sum_of, plus, factor_in, factor, write_factor, gather_product, product_of, product, is_even, int_power, integer_power, power_of, power, quotient_down, quotient, modulo, parity, minus, subtract, divide, absolute, sign, gcd_of, gcd, factorial, all_integers, best_of, extreme}

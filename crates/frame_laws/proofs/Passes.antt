@@ -4,7 +4,7 @@ use Rattle.std.specs.Prelude.{◌&&◌, ◌||◌, not}
 use Rattle.expr_tree.specs.declared.sym.Sym.{Sym}
 use Rattle.expr_tree.specs.Tree.{Tree, integer, string, symbol, normal, elements, call}
 use Rattle.expr_tree.specs.Shapes.{symbol_of}
-use Rattle.semantics.specs.Builtin.{Builtin}
+use Rattle.semantics.specs.declared.builtin.Builtin.{Builtin}
 use Rattle.semantics.specs.Names.{is_known, is_name, role_of}
 use Rattle.semantics.specs.Steps.{strip, has_wrapper}
 use Rattle.semantics.specs.Definitions.{Definition, Attributes, Share, Variable, Function, has}

@@ -1,10 +1,10 @@
 -- Programs that keep to a set of symbols, and the programs of a pass: trials of rules, the first steps.
-use Rattle.std.proofs.Common.{◌≡◌, refl, subst, ℕ, Bool, true, false, List, [], ◌∷◌, ◌++◌, map, Option, Some, None}
+use Rattle.std.proofs.Common.{◌≤◌, ◌≡◌, refl, subst, ℕ, Bool, true, false, List, [], ◌∷◌, ◌++◌, map, Option, Some, None}
 use Rattle.expr_tree.specs.declared.sym.Sym.{Sym}
 use Rattle.expr_tree.specs.declared.limits.Stop.{Stop}
 use Rattle.expr_tree.specs.Tree.{Tree, integer, string, symbol, normal, Trees, nil, cons}
 use Rattle.expr_tree.specs.Order.{same_symbol}
-use Rattle.semantics.specs.Builtin.{Builtin}
+use Rattle.semantics.specs.declared.builtin.Builtin.{Builtin}
 use Rattle.semantics.specs.Names.{Names, known, is_known, is_name, is_call, items_of, make, role_of}
 use Rattle.expr_tree.specs.Substitution.{Binding}
 use Rattle.semantics.specs.InPlace.{put_in_place}
@@ -24,6 +24,8 @@ pub data Origin (A B : Type 0) : Type 0 where
 -- the sets of symbols of an evaluation, which grow as it goes on. A set that holds a name of the table holds all of them
 pub record Realm : Type 1 where
   pub names : Names
+  -- the module number at the start: what Module makes has this number or a later one
+  pub first_number : ℕ
   pub World : Type 0
   pub Member : World → Sym → Type 0
   pub Table : Type 0
@@ -33,10 +35,10 @@ pub record Realm : Type 1 where
   pub tabled : (w : World) (r : Builtin) (s : Sym) → Member w s → is_known names r s ≡ true → Table
   pub has_role : (w : World) (r : Builtin) (s : Sym) → Member w s → role_of names s ≡ Some r → Table
   -- a set with one symbol more
-  pub extended : World → Sym → Table → World
-  pub kept : (w : World) (s : Sym) (t : Table) (x : Sym) → Member w x → Member (extended w s t) x
-  pub added : (w : World) (s : Sym) (t : Table) → Member (extended w s t) s
-  pub only : (w : World) (s : Sym) (t : Table) (x : Sym) → Member (extended w s t) x → Origin (Member w x) (x ≡ s)
+  pub extended : (w : World) (s : Sym) → Table → Origin (Member w s) (first_number ≤ s.number) → World
+  pub kept : (w : World) (s : Sym) (t : Table) (o : Origin (Member w s) (first_number ≤ s.number)) (x : Sym) → Member w x → Member (extended w s t o) x
+  pub added : (w : World) (s : Sym) (t : Table) (o : Origin (Member w s) (first_number ≤ s.number)) → Member (extended w s t o) s
+  pub only : (w : World) (s : Sym) (t : Table) (o : Origin (Member w s) (first_number ≤ s.number)) (x : Sym) → Member (extended w s t o) x → Origin (Member w x) (x ≡ s)
 
 module _ (R : Realm) where
   open R use {names, World, Member, Table, knows, tabled}
@@ -77,11 +79,11 @@ module _ (R : Realm) where
     within : {w : World} {ls : List Local} {e : Tree} {k l : Tree → Prog} → Each (LocalIn w) ls → Has w e
         → ((u : World) → grows w u → (v : Tree) → Has u v → Both u (k v) (l v)) → Both w (Within ls e k) (Within ls e l)
     look : {w : World} {s : Sym} {k l : Seen → Prog} → Member w s → ((x y : Seen) → SeenBoth w x y → Both w (k x) (l y)) → Both w (Look s k) (Look s l)
-    put : {w : World} {s : Sym} {d : Definition} {p q : Prog} → Table → DefinedIn w d → ((u : World) → grows w u → Member u s → Both u p q) → Both w (Put s d p) (Put s d q)
+    put : {w : World} {s : Sym} {d : Definition} {p q : Prog} → Table → Origin (Member w s) (R.first_number ≤ s.number) → DefinedIn w d → ((u : World) → grows w u → Member u s → Both u p q) → Both w (Put s d p) (Put s d q)
     -- a symbol's definition is changed; that of a shared one may differ in the two
     edit : {w : World} {s : Sym} {f : Definition → Definition} {p q : Prog} → Table → Member w s → ((d : Definition) → DefinedIn w d → DefinedIn w (f d)) → Both w p q
         → Both w (Look s (λ seen. Put s (f seen.definition) p)) (Look s (λ seen. Put s (f seen.definition) q))
-    fresh : {w : World} {k l : ℕ → Prog} → R.Numbered w → ((m : ℕ) → Both w (k m) (l m)) → Both w (Fresh k) (Fresh l)
+    fresh : {w : World} {k l : ℕ → Prog} → R.Numbered w → ((m : ℕ) → R.first_number ≤ m → Both w (k m) (l m)) → Both w (Fresh k) (Fresh l)
     turn : {w : World} {p q : Prog} → Both w p q → Both w (Turn p) (Turn q)
     check : {w : World} {e : Tree} {p q : Prog} → Has w e → Both w p q → Both w (Check e p) (Check e q)
     moded : {w : World} {k l : Mode → ℕ → Prog} → Both w (Moded k) (Moded l)

@@ -4,7 +4,7 @@ use Rattle.std.proofs.Common.{Bool, ◌≡◌, refl, true, false, List, [], ◌�
 use Rattle.std.specs.Prelude.{pos, negsuc, int_lt, int_le}
 use Rattle.expr_tree.specs.declared.sym.Sym.{Sym}
 use Rattle.expr_tree.specs.Tree.{Tree}
-use Rattle.semantics.specs.Builtin.{Builtin}
+use Rattle.semantics.specs.declared.builtin.Builtin.{Builtin}
 use Rattle.semantics.specs.Names.{Names, known, is_name, is_call, make}
 use Rattle.semantics.specs.Worked.{Worked, Stays, Gives, TooWide}
 use Rattle.semantics.specs.Tests.{all_same, some_same, is_atom, is_int, is_str}

@@ -1,10 +1,10 @@
 -- Module, Block, With, the application of a Function, replacing and the rows that ask for a match keep to a set of symbols that holds the table.
-use Rattle.std.proofs.Common.{ℕ, zero, suc, Bool, true, false, List, [], ◌∷◌, ◌++◌, reverse, length, drop, Option, Some, None}
+use Rattle.std.proofs.Common.{◌≤◌, ℕ, zero, suc, Bool, true, false, List, [], ◌∷◌, ◌++◌, reverse, length, drop, Option, Some, None}
 use Rattle.std.specs.Prelude.{◌||◌, ltb}
 use Rattle.expr_tree.specs.declared.sym.Sym.{Sym}
 use Rattle.expr_tree.specs.Tree.{Tree, integer, string, symbol, normal, Trees, nil, cons, elements}
 use Rattle.expr_tree.specs.Order.{same}
-use Rattle.semantics.specs.Builtin.{Builtin}
+use Rattle.semantics.specs.declared.builtin.Builtin.{Builtin}
 use Rattle.semantics.specs.Names.{is_call, items_of, truth}
 use Rattle.expr_tree.specs.Substitution.{Binding}
 use Rattle.semantics.specs.InPlace.{put_in_place, nth, slot_number, filled, slot_value, is_slot, is_pure_function, fill_slots, fill_in_items}
@@ -13,7 +13,7 @@ use Rattle.semantics.specs.Program.{Prog, Done, Local}
 use Rattle.semantics.specs.Scoping.{plain_local, valued_local, local_of, locals_of, symbols_of, differ, ask_values, with_locals, renamed, renaming, with_number, make_all, module_form, unless_any_shared, block_form, values_in, with_form, paired, parameters, put_arguments, apply_function}
 use Rattle.semantics.specs.Replace.{rule_in, rule_of, rules_in, rule_set, replaced, replaced_items, replace_all, rounds, replace_repeated, asks, match_q, member, member_q, cases_of, case_rule, matching, cases, count_of, count_row, free, free_items, free_q}
 use Rattle.frame_laws.proofs.Inside.{both, Each, Opt, perhaps, appended, reversed, dropped, Ins, listed, called, items, one_in}
-use Rattle.frame_laws.proofs.Programs.{Realm, Has, HasAll, LocalIn, RuleIn, BoundIn, Both, done, stop, ask, within, look, put, fresh, turn, check, moded, grows, same_world, later, later_in, later_ins, later_all, later_rules, later_locals, Later, LaterGives, from_later, now, branch, option_both, itself, placed, try_rules_both}
+use Rattle.frame_laws.proofs.Programs.{new, Realm, Has, HasAll, LocalIn, RuleIn, BoundIn, Both, done, stop, ask, within, look, put, fresh, turn, check, moded, grows, same_world, later, later_in, later_ins, later_all, later_rules, later_locals, Later, LaterGives, from_later, now, branch, option_both, itself, placed, try_rules_both}
 use Rattle.frame_laws.proofs.ControlRows.{if_shared}
 
 module _ (R : Realm) where
@@ -81,17 +81,17 @@ module _ (R : Realm) where
   later_renamed w u g m [] all = tt
   later_renamed w u g m (l ∷ ls) all = (g (renamed m l.symbol) all.0, later_renamed w u g m ls all.1)
 
-  make_all_both : Table → (m : ℕ) (ls : List Local) (w : World) (p q : Prog) → LocalsIn w ls
+  make_all_both : Table → (m : ℕ) → R.first_number ≤ m → (ls : List Local) (w : World) (p q : Prog) → LocalsIn w ls
       → ((u : World) → grows R w u → Each (λ l. Member u (renamed m l.symbol)) ls → Both R u p q) → Both R w (make_all (with_number m ls) p) (make_all (with_number m ls) q)
-  make_all_both t m [] w p q all next = next w (same_world R w) tt
-  make_all_both t m (l ∷ ls) w p q all next =
-      put t (record { own = all.0.1; downs = tt; ups = tt })
-      (λ u g s_in. make_all_both t m ls u p q (later_locals R w u g ls all.1)
+  make_all_both t m le [] w p q all next = next w (same_world R w) tt
+  make_all_both t m le (l ∷ ls) w p q all next =
+      put t (new le) (record { own = all.0.1; downs = tt; ups = tt })
+      (λ u g s_in. make_all_both t m le ls u p q (later_locals R w u g ls all.1)
       (λ u' g' rest. next u' (later R w u u' g g') (g' (renamed m l.symbol) s_in, rest)))
 
   pub module_both : Table → (w : World) → R.Numbered w → (ls : List Local) (body : Tree) → LocalsIn w ls → Has R w body → Both R w (module_form names ls body) (module_form names ls body)
   module_both t w may ls body ls_in body_in =
-      fresh may (λ m. ask_values_both ls w [] _ _ ls_in tt (λ u g vs vs_in. make_all_both t m vs u _ _ vs_in
+      fresh may (λ m le. ask_values_both ls w [] _ _ ls_in tt (λ u g vs vs_in. make_all_both t m le vs u _ _ vs_in
       (λ u' g' symbols. done (placed R u' (renaming m vs) body (renaming_in t u' m vs symbols) (later_in R w u' (later R w u u' g g') body body_in)))))
 
   -- ---- Block and With

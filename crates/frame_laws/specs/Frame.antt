@@ -2,9 +2,10 @@
 --     IsClosed              a set that holds the symbols of the definition of each of its members, and all of the table with one name of it
 --     AgreeOn               definitions that have the same shared symbols, the same module number, and on a set the same definitions
 --     Members               the members of a set that a test tells
+--     Untouched             what is outside the set stays
 --     StandsIn              an expression whose symbols are in a set
 --     Frame                 evaluations from definitions that agree on a closed set go the same way
-use Rattle.std.specs.Prelude.{◌≡◌, List, Bool, true, false, ◌&&◌}
+use Rattle.std.specs.Prelude.{◌≡◌, ◌<◌, List, Bool, true, false, ◌&&◌}
 use Rattle.expr_tree.specs.declared.sym.Sym.{Sym}
 use Rattle.expr_tree.specs.Tree.{Tree}
 use Rattle.expr_tree.specs.Substitution.{among}
@@ -28,8 +29,13 @@ pub record AgreeOn (names : Names) (C : Sym → Type 0) (d c : Definitions) : Ty
 abbrev pub StandsIn : (Sym → Type 0) → Tree → Type 0
 StandsIn C e = (s : Sym) → among s (symbols_of e) ≡ true → C s
 
--- two evaluations that made no call and ended alike, in as many steps and with the same `used`; their definitions agree still
-pub record WentAlike (names : Names) (C : Sym → Type 0) (events : List Event) (a b : Evaluation) : Type 0 where
+-- what a symbol outside the set has stays, but for symbols that a Module may have made
+abbrev pub Untouched : Names → (Sym → Type 0) → Definitions → Definitions → Type 0
+Untouched names C d after = (s : Sym) → (C s → ⊥) → s.number < d.module_number → stored names after s ≡ stored names d s
+
+-- two evaluations, from d and from c, that made no call and ended alike, in as many steps and with the same `used`; their definitions agree
+-- still, and neither touched what is outside the set
+pub record WentAlike (names : Names) (C : Sym → Type 0) (d c : Definitions) (events : List Event) (a b : Evaluation) : Type 0 where
   pub end : End
   pub first : a.outcome ≡ Outcome.Ended end
   pub second : b.outcome ≡ Outcome.Ended end
@@ -37,6 +43,7 @@ pub record WentAlike (names : Names) (C : Sym → Type 0) (events : List Event) 
   pub used : a.used ≡ b.used
   pub no_call : (a.rest ≡ events) × (b.rest ≡ events)
   pub after : AgreeOn names C a.definitions b.definitions
+  pub untouched : Untouched names C d a.definitions × Untouched names C c b.definitions
 
 -- the members of a set that a test tells
 abbrev pub Members : (Sym → Bool) → Sym → Type 0
@@ -47,4 +54,4 @@ abbrev pub Frame : Type 0
 Frame =
     (set : Setting) → IsNames set.names → (C : Sym → Bool) (d c : Definitions) → IsClosed set.names d (Members C) → AgreeOn set.names (Members C) d c
     → (e : Tree) (events : List Event) → StandsIn (Members C) e → ((eval set d e events).used && (eval set c e events).used) ≡ false
-    → WentAlike set.names (Members C) events (eval set d e events) (eval set c e events)
+    → WentAlike set.names (Members C) d c events (eval set d e events) (eval set c e events)

@@ -19,6 +19,7 @@ abbrev pub calm : Names → Realm
 calm names =
     record {
       names = names;
+      first_number = 0;
       World = Unit {0};
       Member = λ w s. Unit {0};
       Table = Unit {0};
@@ -26,10 +27,10 @@ calm names =
       knows = λ w t r. tt;
       tabled = λ w r s s_in is. tt;
       has_role = λ w r s s_in is. tt;
-      extended = λ w s t. tt;
-      kept = λ w s t x x_in. tt;
-      added = λ w s t. tt;
-      only = λ w s t x x_in. before tt;
+      extended = λ w s t o. tt;
+      kept = λ w s t o x x_in. tt;
+      added = λ w s t o. tt;
+      only = λ w s t o x x_in. before tt;
     }
 
 mutual

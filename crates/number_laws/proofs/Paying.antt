@@ -132,7 +132,7 @@ module _ (set : Setting) (n : ℕ) (ev : Evaluator) (sticky : Sticky ev) where
         inside : {g b : ℕ} (t : State) → Paid g b (with_locals set.names ls u) t → Paid g b u (without_locals set.names u.definitions ls t)
         inside t paid = moved_end (back_number set.names u.definitions ls t.definitions) refl (moved_begin (sym (put_number set.names ls u.definitions)) refl paid)
     calm_run (look {s = a} s_in next) u = calm_run (next _ _ (seen_anyhow set.names (seen set.names u.definitions a))) u
-    calm_run (put table defined next) u = mapped (λ r t paid. moved_begin refl refl paid) (λ t paid. moved_begin refl refl paid) (calm_run (next tt (λ s s_in. tt) tt) _)
+    calm_run (put table origin defined next) u = mapped (λ r t paid. moved_begin refl refl paid) (λ t paid. moved_begin refl refl paid) (calm_run (next tt (λ s s_in. tt) tt) _)
     calm_run (edit table s_in keeps next) u = mapped (λ r t paid. moved_begin refl refl paid) (λ t paid. moved_begin refl refl paid) (calm_run next _)
     calm_run (fresh nowhere next) u = elim nowhere [ ]
     calm_run (turn {p = p} next) u = step (ltb u.steps set.limits.steps) (calm_run next (record u { steps = u.steps + 1 }))

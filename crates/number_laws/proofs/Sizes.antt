@@ -6,7 +6,7 @@ use Rattle.expr_tree.specs.declared.sym.Sym.{Sym}
 use Rattle.expr_tree.specs.Tree.{Tree, integer, string, symbol, normal, Trees, nil, cons, elements, trees, size, sizes}
 use Rattle.expr_tree.specs.Order.{tree_cmp, same_symbol}
 use Rattle.expr_tree.specs.Substitution.{Binding, value_of, bound_in, without, among, value_or_symbol, put_in_items}
-use Rattle.semantics.specs.Builtin.{Builtin}
+use Rattle.semantics.specs.declared.builtin.Builtin.{Builtin}
 use Rattle.semantics.specs.Names.{Names, known, is_call, items_of}
 use Rattle.semantics.specs.Steps.{splice, unwrapped, strip, is_call_of, flatten_item, flatten_items, put_in, ordered}
 use Rattle.semantics.specs.Definitions.{Attributes, has}

@@ -13,7 +13,7 @@ use Rattle.language_laws.proofs.Modes.{mode_independent}
 use Rattle.journal.specs.Closure.{symbols_of, symbols_of_definition, stored_symbols, is_shared, InClosure, seed, followed, table, bundle, install}
 use Rattle.journal.specs.Core.{Setup, in_mode}
 use Rattle.journal.specs.Quiet.{bare, by_itself, IsQuiet}
-use Rattle.frame_laws.specs.Frame.{IsClosed, AgreeOn, WentAlike}
+use Rattle.frame_laws.specs.Frame.{IsClosed, AgreeOn, Untouched, WentAlike}
 use Rattle.frame_laws.proofs.Framed.{framed}
 use Rattle.quiet_laws.specs.Quiet.{NoNameShared, GivesAlone, QuietAnywhere}
 use Rattle.quiet_laws.proofs.Installed.{installed}
@@ -36,7 +36,7 @@ closure_closed names d seeds free =
 
 -- ---- agreement
 
-agree_itself : (names : Names) (C : Sym → Type 0) (d : Definitions) → AgreeOn names C d d
+pub agree_itself : (names : Names) (C : Sym → Type 0) (d : Definitions) → AgreeOn names C d d
 agree_itself names C d = record { shared = refl; number = refl; same = λ s s_in free. refl }
 
 agree_turned : (names : Names) (C : Sym → Type 0) (d c : Definitions) → AgreeOn names C d c → AgreeOn names C c d
@@ -62,7 +62,7 @@ closed_again names C d c close one =
 
 -- ---- an evaluation without a call is the same whatever the list
 
-ended_needs : {o : End} {c : Call} → ◌≡◌ {A = Outcome} (Needs c) (Ended o) → ⊥
+pub ended_needs : {o : End} {c : Call} → ◌≡◌ {A = Outcome} (Needs c) (Ended o) → ⊥
 ended_needs e = Prim.cc e
 
 record AsAlone (events : List Event) (a b : Evaluation) : Type 0 where
@@ -93,13 +93,13 @@ module _ (set : Setup) (is : IsNames set.names) (d : Definitions) (free : NoName
   alone_agrees = installed set.names d empty (symbols_of a)
 
   -- from definitions that agree with d on the closure, as a kernel's item
-  as_item : (c : Definitions) → AgreeOn set.names C d c → WentAlike set.names C [] (by_itself set d a) (eval (in_mode set Mode.Item 0) c a [])
+  as_item : (c : Definitions) → AgreeOn set.names C d c → WentAlike set.names C (bare set d a) c [] (by_itself set d a) (eval (in_mode set Mode.Item 0) c a [])
   as_item c one =
       framed (in_mode set Mode.Item 0) is C (bare set d a) c (closed_again set.names C d (bare set d a) (closure_closed set.names d (symbols_of a) free) alone_agrees)
       (agree_on set.names C (bare set d a) d c (agree_turned set.names C d (bare set d a) alone_agrees) one) a [] (λ s e. seed s e)
       (and_false (by_itself set d a).used _ quiet.unused)
 
-  in_any_mode : (c : Definitions) → AgreeOn set.names C d c → (mode : Mode) (kernel : ℕ) (events : List Event) → GivesAlone set d a quiet.value events c (eval (in_mode set mode kernel) c a events)
+  pub in_any_mode : (c : Definitions) → AgreeOn set.names C d c → (mode : Mode) (kernel : ℕ) (events : List Event) → GivesAlone set d a quiet.value events c (eval (in_mode set mode kernel) c a events)
   in_any_mode c one mode kernel events =
       let went = as_item c one in
       let unused : (eval (in_mode set Mode.Item 0) c a []).used ≡ false = sym went.used ∙ quiet.unused in
@@ -116,6 +116,7 @@ module _ (set : Setup) (is : IsNames set.names) (d : Definitions) (free : NoName
             (agree_on set.names C d (bare set d a) (eval (in_mode set Mode.Item 0) c a events).definitions alone_agrees
             (subst (λ x. AgreeOn set.names C (bare set d a) x) (sym any.definitions)
             (subst (λ x. AgreeOn set.names C x (eval (in_mode set Mode.Item 0) c a []).definitions) quiet.keeps went.after)));
+        untouched = subst (λ x. Untouched set.names C c x) (sym any.definitions) went.untouched.1;
       })
 
 pub quiet_anywhere : QuietAnywhere

@@ -1,7 +1,7 @@
 -- Agreement on a closed set.
 use Rattle.std.proofs.Common.{◌≡◌, refl, true, false, [], ◌∷◌}
 use Rattle.expr_tree.specs.Tree.{Tree}
-use Rattle.semantics.specs.Builtin.{Builtin}
+use Rattle.semantics.specs.declared.builtin.Builtin.{Builtin}
 use Rattle.semantics.specs.Definitions.{Definitions, Share, empty}
 use Rattle.semantics.specs.Eval.{Evaluation, eval}
 use Rattle.semantics.specs.Table.{row, worked}

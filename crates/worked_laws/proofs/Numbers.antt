@@ -3,8 +3,8 @@ use Rattle.std.proofs.Common.{◌≡◌, refl, true, [], ◌∷◌}
 use Rattle.expr_tree.specs.Tree.{Tree}
 use Rattle.expr_tree.specs.declared.limits.Limits.{Limits}
 use Rattle.expr_tree.specs.declared.limits.Stop.{Stop}
-use Rattle.semantics.specs.Builtin.{Builtin}
-use Rattle.semantics.specs.Definitions.{empty}
+use Rattle.semantics.specs.declared.builtin.Builtin.{Builtin}
+use Rattle.semantics.specs.Definitions.{Definitions, empty}
 use Rattle.semantics.specs.Program.{Call, Request}
 use Rattle.semantics.specs.Play.{Reply}
 use Rattle.semantics.specs.Eval.{Evaluation, eval}
@@ -67,3 +67,29 @@ used_after_a_call = refl
 value_after_a_call : called.outcome ≡ value (symbol_of_row Builtin.Null)
 unfolding eval row worked
 value_after_a_call = refl
+
+-- a pass that takes a number may give the expression itself, where Module does not hold its elements and x is Unevaluated[Module[{y}, x]]
+abbrev itself : Tree
+itself = of Builtin.Module (list (y' ∷ []) ∷ x' ∷ [])
+
+abbrev after : Definitions → Tree → Definitions
+after d e = (eval (in_cell usual) d e []).definitions
+
+abbrev not_held : Definitions
+not_held =
+    after (after (after empty (of Builtin.Unprotect (symbol_of_row Builtin.Module ∷ [])))
+    (of Builtin.ClearAttributes (symbol_of_row Builtin.Module ∷ symbol_of_row Builtin.HoldAll ∷ [])))
+    (of Builtin.SetDelayed (x' ∷ of Builtin.Unevaluated (of Builtin.Unevaluated (itself ∷ []) ∷ []) ∷ []))
+
+gives_itself : (eval (in_cell usual) not_held itself []).outcome ≡ value itself
+unfolding eval row worked
+gives_itself = refl
+
+-- one number, and the step of the element that grew
+number_of_itself : (eval (in_cell usual) not_held itself []).definitions.module_number ≡ 2
+unfolding eval row worked
+number_of_itself = refl
+
+steps_of_itself : (eval (in_cell usual) not_held itself []).steps ≡ 1
+unfolding eval row worked
+steps_of_itself = refl

@@ -1,8 +1,9 @@
 -- Quiet applications on a kernel that knows something else.
-use Rattle.std.proofs.Common.{◌≡◌, refl, true, false, [], ◌∷◌}
-use Rattle.expr_tree.specs.Tree.{Tree}
-use Rattle.semantics.specs.Builtin.{Builtin}
-use Rattle.semantics.specs.Definitions.{Definitions, empty}
+use Rattle.std.proofs.Common.{Some, ◌≡◌, refl, true, false, [], ◌∷◌}
+use Rattle.expr_tree.specs.Tree.{call, Tree}
+use Rattle.semantics.specs.declared.builtin.Builtin.{Builtin}
+use Rattle.semantics.specs.Definitions.{Definitions, Share, Shared, empty, put}
+use Rattle.semantics.specs.Names.{known}
 use Rattle.semantics.specs.Program.{Mode}
 use Rattle.semantics.specs.Eval.{Outcome, eval}
 use Rattle.semantics.specs.Table.{row, worked}
@@ -64,3 +65,33 @@ number_alone = refl
 number_on_kernel : on_kernel (at (symbol_of_row Builtin.KernelID)) ≡ value (int 4)
 unfolding eval row worked matches
 number_on_kernel = refl
+
+-- with the names Pattern and BlankSequence shared the closure of f[1, 2] lacks Sequence, which f[x__] := g[x] puts in: by itself g[1, 2], with
+-- `used` false, but g[7[1, 2]] on a kernel where Sequence has the value 7
+abbrev shared_name : Builtin → Shared
+shared_name row = record { symbol = known names row; kind = Share.Variable; attributes = [] }
+
+abbrev sharing : Definitions
+sharing =
+    record (known_after empty (of Builtin.SetDelayed (at (of Builtin.Pattern (x' ∷ of Builtin.BlankSequence [] ∷ [])) ∷ apply g' x' ∷ []))) {
+      shared = shared_name Builtin.Pattern ∷ shared_name Builtin.BlankSequence ∷ [];
+    }
+
+abbrev of_two : Tree
+of_two = call f' (int 1 ∷ int 2 ∷ [])
+
+abbrev with_seven : Definitions
+with_seven = put names empty (known names Builtin.Sequence) (record { attributes = []; own = Some (int 7); downs = []; ups = [] })
+
+shared_alone : (by_itself setup sharing of_two).outcome ≡ value (call g' (int 1 ∷ int 2 ∷ []))
+unfolding eval row worked matches
+shared_alone = refl
+
+shared_unused : (by_itself setup sharing of_two).used ≡ false
+unfolding eval row worked matches
+shared_unused = refl
+
+shared_on_kernel : (eval (in_mode setup Mode.Item 3) (install names with_seven (bundle names sharing (symbols_of of_two))) of_two []).outcome
+    ≡ value (call g' (call (int 7) (int 1 ∷ int 2 ∷ []) ∷ []))
+unfolding eval row worked matches
+shared_on_kernel = refl
