@@ -1,0 +1,5 @@
+mod LastOf
+mod Mapped
+mod Holds
+mod Counted
+mod Joined
