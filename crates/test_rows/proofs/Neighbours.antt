@@ -102,8 +102,13 @@ pub data_end : (es : List Tree) (i : ℕ) → length es ≤ i → all_data (drop
 data_end es i h = at_drop_all all_data es i h
 
 pub ruleset same_steps = (same_yes, same_no, same_end)
+
 pub ruleset order_steps = (order_yes, order_no, order_end)
+
 pub ruleset differ_steps = (differ_yes, differ_no, differ_end)
+
 pub ruleset member_steps = (stands_yes, stands_no, stands_end)
+
 pub ruleset some_steps = (some_yes, some_no, some_end)
+
 pub ruleset data_steps = (data_yes, data_no, data_end)
