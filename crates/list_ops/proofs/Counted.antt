@@ -21,7 +21,7 @@ replicate_sizes (suc n) x = omega (arith, replicate_sizes n x, more_times n (siz
 pub replicate_size : (names : Names) (n : ℕ) (x : Tree) → size (make names Builtin.List (replicate n x)) ≡ n * size x + 1
 replicate_size names n x = omega (arith, replicate_sizes n x)
 
-count_up_sizes : (a d : ℤ) (n : ℕ) → sizes (trees (count_up a d n)) ≡ n
+pub count_up_sizes : (a d : ℤ) (n : ℕ) → sizes (trees (count_up a d n)) ≡ n
 count_up_sizes a d zero = refl
 count_up_sizes a d (suc n) = omega (arith, count_up_sizes (a +ℤ d) d n)
 

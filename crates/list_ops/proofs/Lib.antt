@@ -3,3 +3,5 @@ mod Mapped
 mod Holds
 mod Counted
 mod Joined
+mod Flattened
+mod Distinct

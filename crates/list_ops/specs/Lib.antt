@@ -1,3 +1,7 @@
 pub mod Holds
 pub mod Counted
 pub mod Under
+pub mod Flat
+pub mod Repeats
+pub mod Rows
+pub mod MostOf

@@ -1,1 +1,2 @@
 pub mod TextOf
+pub mod Rows
