@@ -7,7 +7,6 @@ ghost use Rattle.builtin_names.specs.Named.{HasBuiltins, names_in};
 ghost use Rattle.builtin_names.specs.Results.{Works};
 ghost use Rattle.string_rows.specs.TextOf.{text_of};
 
-
 use builtin_names::{Fault, make};
 use expr_tree::{Expr, Exprs, Node, Text};
 use item_list::Items;
