@@ -1,18 +1,18 @@
 -- How large a List of so many elements is.
-use Rattle.std.proofs.Common.{◌≡◌, ℕ, zero, suc, ◌+◌, ◌-◌, ◌*◌, ◌<◌, ◌≤◌, min, max, refl, ap, sym, subst, ◌∙◌, List, [], ◌∷◌, ◌++◌, map, length, replicate, arith, add-zero}
+use Rattle.std.proofs.Common.{◌≡◌, ℕ, zero, suc, ◌+◌, ◌*◌, ◌<◌, ◌≤◌, min, refl, ap, sym, subst, ◌∙◌, List, [], ◌∷◌, ◌++◌, map, length, replicate, arith}
 use Rattle.std.specs.Prelude.{ℤ, pos, negsuc, ◌+ℤ◌}
-use Rattle.expr_tree.specs.Tree.{Tree, integer, normal, trees, call, size, sizes, depth, depths}
+use Rattle.expr_tree.specs.Tree.{Tree, integer, trees, size, sizes, depths}
 use Rattle.expr_tree.proofs.Callers.{tree_steps}
 use Rattle.semantics.specs.declared.builtin.Builtin.{Builtin}
 use Rattle.semantics.specs.Names.{Names, make}
-use Rattle.semantics.specs.Worked.{Worked, Gives}
+use Rattle.semantics.specs.Worked.{Gives}
 use Rattle.semantics.specs.Lists.{mapped, count_up, constant_array, array}
 use Rattle.std.specs.Prelude.{Err}
 use Rattle.builtin_names.specs.Results.{Works}
 use Rattle.builtin_names.specs.declared.fault.Fault.TheVariants.{TooLarge, TooDeep}
 use Rattle.std.proofs.Math.Nat.{mul-le-mul_left, mul-le-mul_right}
 use Rattle.list_ops.specs.Counted.{count_of}
-use Rattle.list_ops.proofs.Mapped.{mapped_sizes, size_some, length_sizes, more_times}
+use Rattle.list_ops.proofs.Mapped.{mapped_sizes, size_some, more_times}
 
 replicate_sizes : (n : ℕ) (x : Tree) → sizes (trees (replicate n x)) ≡ n * size x
 replicate_sizes zero x = omega arith
@@ -81,4 +81,5 @@ array_deep names f z n s es a b e few deep =
     (record { by = (omega (arith, large, same), omega (arith, large, same, few), omega (arith, below)) })
 
 pub ruleset repeated_steps = (tree_steps, constant_few, constant_many)
+
 pub ruleset array_steps = (tree_steps, array_few, array_many, array_deep)

@@ -1,5 +1,5 @@
 -- The elements of Lists, each once, from a place on.
-use Rattle.std.proofs.Common.{◌≡◌, ◌≢◌, ℕ, zero, suc, ◌+◌, ◌-◌, ◌<◌, ◌≤◌, refl, ap, sym, ◌∙◌, Bool, true, false, List, [], ◌∷◌, ◌++◌, Some, None, length, get_or, drop, arith, append_assoc}
+use Rattle.std.proofs.Common.{◌≡◌, ◌≢◌, ℕ, ◌+◌, ◌-◌, ◌<◌, ◌≤◌, refl, ap, sym, ◌∙◌, Bool, true, false, List, [], ◌∷◌, ◌++◌, Some, None, length, get_or, drop, arith, append_assoc}
 use Rattle.std.specs.Prelude.{Option}
 use Rattle.std.specs.Bool.{IsTrue}
 use Rattle.std.specs.Option.{option_map}
@@ -102,6 +102,9 @@ union_none names [] e = refl
 union_none names (x ∷ es) e = ap (row_of names) e
 
 pub ruleset repeat_steps = (repeats_no, repeats_at)
+
 pub ruleset distinct_steps = (distinct_yes, distinct_no, distinct_end)
+
 pub ruleset listed_steps = (lists_more, lists_no, lists_end, lists_start)
+
 pub ruleset union_steps = (union_some, union_none)

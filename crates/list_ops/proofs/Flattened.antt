@@ -1,15 +1,15 @@
 -- Flattening level by level.
-use Rattle.std.proofs.Common.{◌≡◌, ◌≢◌, ℕ, zero, suc, ◌+◌, ◌-◌, ◌<◌, ◌≤◌, min, max, refl, ap, sym, ◌∙◌, Bool, true, false, List, [], ◌∷◌, ◌++◌, Some, None, length, arith}
+use Rattle.std.proofs.Common.{◌≡◌, ◌≢◌, ℕ, zero, suc, ◌-◌, ◌<◌, ◌≤◌, min, refl, ap, sym, ◌∙◌, Bool, true, false, List, [], ◌∷◌, ◌++◌, Some, None, arith}
 use Rattle.std.specs.Prelude.{ℤ, pos, negsuc}
 use Rattle.std.specs.Bool.{IsTrue}
 use Rattle.std.specs.Prelude.{leb}
 use Rattle.std.proofs.lemmas.Bool.{leb-true, leb-false}
-use Rattle.expr_tree.specs.Tree.{Tree, Trees, integer, string, symbol, normal, nil, cons, trees, elements, call, depth, depths}
+use Rattle.expr_tree.specs.Tree.{Tree, Trees, integer, string, symbol, normal, nil, cons, trees, call, depth, depths}
 use Rattle.expr_tree.proofs.Callers.{tree_steps}
 use Rattle.expr_tree.proofs.Trees.{trees-elements}
 use Rattle.semantics.specs.declared.builtin.Builtin.{Builtin}
 use Rattle.semantics.specs.Names.{Names, is_name, is_call, items_of}
-use Rattle.semantics.specs.Worked.{Worked, Stays, Gives}
+use Rattle.semantics.specs.Worked.{Stays, Gives}
 use Rattle.semantics.specs.Lists.{flat_item, flat_items, flatten_row}
 use Rattle.list_ops.specs.Flat.{levels_of, flat_to}
 
@@ -103,4 +103,5 @@ row_none names (symbol s) (negsuc k) l = refl
 row_none names (normal h es) (negsuc k) l = refl
 
 pub ruleset flat_steps = (tree_steps, flat_none, flat_list, flat_other, list_depth)
+
 pub ruleset row_steps = (tree_steps, row_all, row_some, row_none)

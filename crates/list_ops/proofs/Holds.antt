@@ -1,11 +1,11 @@
 -- ReleaseHold by one test.
-use Rattle.std.proofs.Common.{◌≡◌, ◌≢◌, refl, Bool, true, false, List, [], ◌∷◌, length, arith}
+use Rattle.std.proofs.Common.{◌≡◌, ◌≢◌, refl, Bool, true, false, List, [], ◌∷◌, length}
 use Rattle.expr_tree.specs.Tree.{Tree, normal, nil, cons, trees}
 use Rattle.expr_tree.proofs.Callers.{tree_steps}
 use Rattle.semantics.specs.declared.builtin.Builtin.{Builtin}
 use Rattle.semantics.specs.Names.{Names, is_name}
 use Rattle.std.specs.Prelude.{◌||◌}
-use Rattle.semantics.specs.Worked.{Worked, Stays, Gives}
+use Rattle.semantics.specs.Worked.{Stays, Gives}
 use Rattle.semantics.specs.Lists.{released}
 use Rattle.list_ops.specs.Holds.{is_hold}
 

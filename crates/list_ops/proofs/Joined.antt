@@ -1,13 +1,12 @@
 -- Joining the elements from a place on.
-use Rattle.std.proofs.Common.{◌≡◌, ℕ, zero, suc, ◌+◌, ◌<◌, ◌≤◌, refl, ap, sym, subst, ◌∙◌, Bool, true, false, List, [], ◌∷◌, ◌++◌, Some, None, length, get_or, drop, arith, append_assoc}
+use Rattle.std.proofs.Common.{◌≡◌, ℕ, ◌+◌, ◌<◌, ◌≤◌, refl, ap, sym, subst, ◌∙◌, Bool, true, false, List, [], ◌∷◌, ◌++◌, Some, None, length, get_or, drop, arith, append_assoc}
 use Rattle.std.specs.Prelude.{Option}
 use Rattle.std.specs.Option.{option_map}
 use Rattle.std.proofs.lemmas.List.{drop_more, at_drop_all, append-nil}
-use Rattle.expr_tree.specs.Tree.{Tree, Trees, integer, string, symbol, normal, elements, trees, call}
+use Rattle.expr_tree.specs.Tree.{Tree, Trees, integer, string, symbol, normal, elements, call}
 use Rattle.expr_tree.specs.Same.{tree_eq}
 use Rattle.expr_tree.proofs.Callers.{tree_steps}
 use Rattle.expr_tree.proofs.Same.{tree_eq-refl}
-use Rattle.expr_tree.proofs.Trees.{elements-trees}
 use Rattle.semantics.specs.Names.{Names}
 use Rattle.semantics.specs.Worked.{Worked, Stays, Gives}
 use Rattle.semantics.specs.Lists.{joined, join}
@@ -91,4 +90,5 @@ pub join_none : (names : Names) (es : List Tree) (x h : Tree) (ts : Trees) → 1
 join_none names es x h ts l p is e = by_first names es x h ts l p is ∙ ap (row_of h) e
 
 pub ruleset joined_steps = (joins, joins_no, joins_end, joins_start)
+
 pub ruleset join_steps = (tree_steps, join_some, join_none)

@@ -1,9 +1,7 @@
 -- How large and how deep the parts of a mapped expression are.
-use Rattle.std.proofs.Common.{◌≡◌, ℕ, zero, suc, ◌+◌, ◌-◌, ◌*◌, ◌<◌, ◌≤◌, max, refl, ap, sym, ◌∙◌, List, [], ◌∷◌, ◌++◌, map, length, get_or, take, arith}
-use Rattle.std.proofs.lemmas.List.{map_more, take_all}
+use Rattle.std.proofs.Common.{◌≡◌, ℕ, zero, suc, ◌+◌, ◌*◌, ◌<◌, ◌≤◌, List, [], ◌∷◌, map, length, get_or, arith}
 use Rattle.expr_tree.specs.Tree.{Tree, integer, string, symbol, normal, trees, call, size, sizes, depth, depths}
 use Rattle.expr_tree.proofs.Callers.{tree_steps}
-use Rattle.expr_tree.proofs.Trees.{elements-trees}
 use Rattle.semantics.specs.Lists.{mapped}
 
 pub mapped_size : (f : Tree) (es : List Tree) (i : ℕ) (x : Tree) → i < length es → x ≡ get_or es i x → size (mapped f x) ≤ sizes (trees (map (mapped f) es))
@@ -37,4 +35,5 @@ length_sizes [] = omega arith
 length_sizes (a ∷ es) = omega (arith, length_sizes es, size_some a)
 
 pub ruleset mapped_steps = (tree_steps, mapped_size, mapped_depth)
+
 pub ruleset map_steps = (tree_steps, map_size, length_sizes)

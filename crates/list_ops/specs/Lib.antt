@@ -4,4 +4,3 @@ pub mod Under
 pub mod Flat
 pub mod Repeats
 pub mod Rows
-pub mod MostOf

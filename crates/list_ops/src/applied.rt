@@ -26,11 +26,7 @@ fn mapped(alloc: Global, function: &Expr, argument: &Expr) -> Result<Expr, Built
 
 /// A function of each argument in turn.
 #[tactic(auto, using(crate::proofs::Mapped::mapped_steps))]
-pub(crate) fn mapped_all(
-    alloc: Global,
-    function: &Expr,
-    arguments: &[Expr],
-) -> Result<Exprs, Built>
+pub(crate) fn mapped_all(alloc: Global, function: &Expr, arguments: &[Expr]) -> Result<Exprs, Built>
     ensures { MakesAll (trees (map (l.mapped function.now) arguments.now)) result }
 {
     let mut made = Items::new(alloc);

@@ -1,14 +1,12 @@
 //! The rows of the head, the ends and the number of the elements.
-ghost use Rattle.std.specs.Prelude.{◌≡◌, IfOk};
 ghost use Rattle.semantics.specs.Lists as l;
 ghost use Rattle.builtin_names.specs.Results.{Works};
-ghost use Rattle.list_ops.specs.MostOf.{most_of};
 
 use crate::answer::{call, copies, put_behind, same};
 use builtin_names::Fault;
 use expr_tree::{Expr, Exprs, Node};
 use item_list::Items;
-use std::alloc::{AllocError, Global};
+use std::alloc::Global;
 
 /// `Head`.
 #[tactic(auto, using(expr_tree::proofs::Callers::tree_steps))]
@@ -87,35 +85,6 @@ pub fn row_rest(alloc: Global, items: &Exprs) -> Result<Option<Expr>, Fault>
     match elements.as_slice() {
         [_, rest @ ..] => call(alloc, head.copy(alloc)?, copies(alloc, rest)?),
         _ => Ok(None),
-    }
-}
-
-/// All elements but the last, where there is one.
-#[tactic(auto, using(crate::proofs::LastOf::but_last_steps))]
-fn but_last(alloc: Global, items: &[Expr]) -> Result<Option<Exprs>, AllocError>
-    ensures { IfOk result (λ o. o ≡ most_of items.now) }
-{
-    let mut most = copies(alloc, items)?;
-    match most.pop() {
-        Some(_) => Ok(Some(most)),
-        None => Ok(None),
-    }
-}
-
-/// `Most`.
-#[tactic(auto, using(crate::proofs::LastOf::most_steps))]
-pub fn row_most(alloc: Global, items: &Exprs) -> Result<Option<Expr>, Fault>
-    ensures { Works (l.most items.now) result }
-{
-    let [e] = items.as_slice() else {
-        return Ok(None);
-    };
-    let Node::Normal(head, elements) = e.node() else {
-        return Ok(None);
-    };
-    match but_last(alloc, elements.as_slice())? {
-        Some(most) => call(alloc, head.copy(alloc)?, most),
-        None => Ok(None),
     }
 }
 

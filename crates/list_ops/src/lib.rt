@@ -11,7 +11,7 @@ mod orders;
 mod table;
 
 pub use applied::{row_apply, row_itself, row_map, row_release_hold, row_total};
-pub use ends::{row_append, row_first, row_head, row_last, row_length, row_most, row_prepend, row_rest};
+pub use ends::{row_append, row_first, row_head, row_last, row_length, row_prepend, row_rest};
 pub use flattening::row_flatten;
 pub use joins::row_join;
 pub use numbered::{row_array, row_constant_array};

@@ -101,7 +101,12 @@ pub fn row_union(alloc: Global, names: &Names, items: &Exprs) -> Result<Option<E
     match listed(alloc, names, items.as_slice())? {
         Some(all) => {
             let sorted = order(alloc, all)?;
-            make(alloc, names, Builtin::List, distinct(alloc, sorted.as_slice())?)
+            make(
+                alloc,
+                names,
+                Builtin::List,
+                distinct(alloc, sorted.as_slice())?,
+            )
         }
         None => Ok(None),
     }
