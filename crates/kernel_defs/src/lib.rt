@@ -5,6 +5,8 @@ mod definition;
 mod left_side;
 mod refusal;
 mod targets;
+#[cfg(test)]
+mod tests;
 
 pub use definition::Definition;
 pub use left_side::inner;
