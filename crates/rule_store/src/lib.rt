@@ -5,6 +5,8 @@ mod key;
 mod marks;
 mod rule;
 mod rules;
+#[cfg(test)]
+mod tests;
 
 pub use key::Key;
 pub use rule::{Rule, condition_of, result_of};
