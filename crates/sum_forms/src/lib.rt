@@ -4,6 +4,8 @@
 mod answers;
 mod powers;
 mod short_forms;
+#[cfg(test)]
+mod tests;
 
 pub use powers::power;
 pub use short_forms::{divide, minus, subtract};
