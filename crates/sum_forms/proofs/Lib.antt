@@ -1,1 +1,3 @@
 mod Shapes
+mod Order
+mod Rests

@@ -2,6 +2,7 @@
 #![tactic(auto)]
 
 mod answers;
+mod groups;
 mod powers;
 mod short_forms;
 
