@@ -35,7 +35,7 @@ add-same p q rest e = rw (e, add_part) refl
 add-other : (p q : Part) (rest : List Part) → same p.rest q.rest ≡ false → add_part p (q ∷ rest) ≡ q ∷ add_part p rest
 add-other p q rest e = rw (e, add_part) refl
 
-cut : (xs : List Part) (i : ℕ) (q : Part) → i < length xs → q ≡ get_or xs i q → (drop i xs ≡ q ∷ drop (suc i) xs) × (take (suc i) xs ≡ take i xs ++ q ∷ [])
+pub cut : (xs : List Part) (i : ℕ) (q : Part) → i < length xs → q ≡ get_or xs i q → (drop i xs ≡ q ∷ drop (suc i) xs) × (take (suc i) xs ≡ take i xs ++ q ∷ [])
 cut [] i q low is = absurd (omega arith)
 cut (x ∷ xs) zero q low is = (ap (λ y. y ∷ xs) (sym is), ap (λ y. y ∷ []) (sym is))
 cut (x ∷ xs) (suc i) q low is = let (dropped, taken) = cut xs i q (omega arith) is in (dropped, ap (λ l. x ∷ l) taken)

@@ -4,7 +4,10 @@
 mod answers;
 mod groups;
 mod powers;
+mod products;
 mod short_forms;
+mod terms;
 
 pub use powers::power;
+pub use products::times;
 pub use short_forms::{divide, minus, subtract};
