@@ -17,4 +17,4 @@ pub use divisors::{common_divisor, gcd};
 pub use out_of_range::OutOfRange;
 pub use powers::{factorial, power};
 pub use product::Product;
-pub use sum::Sum;
+pub use sum::{Sum, total};

@@ -1,6 +1,7 @@
 //! Sums of many integers, judged as a whole.
 ghost use Rattle.std.specs.Prelude.{◌≡◌, ◌<◌, ◌^◌, pos, negsuc, nat_abs, ◌+ℤ◌, ◌*ℤ◌, ◌≤ℤ◌};
 ghost use Rattle.int_ops.specs.Exact.{Exactly};
+ghost use Rattle.int_ops.specs.Totals.{total};
 
 use crate::out_of_range::OutOfRange;
 use std::marker::Model;
@@ -84,4 +85,15 @@ fn judged(value: i128, turns: i128) -> Result<i128, OutOfRange>
     } else {
         Err(OutOfRange)
     }
+}
+
+/// The sum of many integers, judged as a whole.
+pub fn total(numbers: &[i128]) -> Result<i128, OutOfRange>
+    ensures { Exactly (total numbers.now) result }
+{
+    let mut sum = Sum::of(0);
+    for number in numbers {
+        sum.add(*number);
+    }
+    sum.judged()
 }
