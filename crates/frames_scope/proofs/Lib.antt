@@ -1,0 +1,3 @@
+pub mod Readings
+pub mod Machines
+pub mod Questions

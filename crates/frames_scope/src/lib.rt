@@ -1,0 +1,18 @@
+//! Module, Block and With as machines, and the application of a Function.
+#![tactic(auto)]
+
+mod asking;
+mod block_form;
+mod locals;
+mod module_form;
+mod moves;
+mod placing;
+mod reading;
+mod symbols;
+
+pub use block_form::Block;
+pub use locals::{Local, Locals, Scope};
+pub use module_form::Module;
+pub use moves::Move;
+pub use placing::place;
+pub use reading::{block_scope, module_scope};
