@@ -59,8 +59,8 @@ joined_none (Some ls) = refl
 
 pub locals_more : (names : Names) (items : List Tree) (i : ℕ) (e : Tree) (done : List Local) (l : Local) → i < length items → e ≡ get_or items i e → local_read (Some l) ≡ local_of names e
     → joined (locals_in done) (locals_of names (drop i items)) ≡ joined (locals_in (done ++ l ∷ [])) (locals_of names (drop (i + 1) items))
-locals_more names items i e done l p is read =
-    ap (λ es. joined (locals_in done) (locals_of names es)) (next_item items i e p is)
+locals_more names items i e done l inside is read =
+    ap (λ es. joined (locals_in done) (locals_of names es)) (next_item items i e inside is)
     ∙ step (locals_of names (drop (i + 1) items))
   where
     step : (o : Option (List p.Local)) → joined (locals_in done) (elim (local_of names e) [ None ↦ None | Some m ↦ elim o [ None ↦ None | Some ls ↦ Some (m ∷ ls) ] ]) ≡ joined (locals_in (done ++ l ∷ [])) o
@@ -71,8 +71,8 @@ locals_more names items i e done l p is read =
 
 pub locals_stop : (names : Names) (items : List Tree) (i : ℕ) (e : Tree) (done : List Local) → i < length items → e ≡ get_or items i e → local_read None ≡ local_of names e
     → joined (locals_in done) (locals_of names (drop i items)) ≡ None
-locals_stop names items i e done p is read =
-    ap (λ es. joined (locals_in done) (locals_of names es)) (next_item items i e p is)
+locals_stop names items i e done inside is read =
+    ap (λ es. joined (locals_in done) (locals_of names es)) (next_item items i e inside is)
     ∙ ap (λ r. joined (locals_in done) (elim r as (λ _. Option (List p.Local)) [ None ↦ None | Some m ↦ elim (locals_of names (drop (i + 1) items)) [ None ↦ None | Some ls ↦ Some (m ∷ ls) ] ])) (sym read)
 
 pub ruleset locals_steps = (joined_none, locals_more, locals_stop)
@@ -112,20 +112,20 @@ read_nothing names allowed items x y long a b none' = record {
 
 pub read_refused : (names : Names) (allowed : List Sym → Bool) (items : List Tree) (x y : Tree) (ls : List Local) → length items ≡ 2 → x ≡ get_or items 0 x → y ≡ get_or items 1 y
     → locals_read (Some ls) ≡ locals_under names x → allowed (symbols_of (locals_in ls)) ≡ false → IsRead names allowed items None
-read_refused names allowed items x y ls long a b some no = record {
+read_refused names allowed items x y ls long a b some refused = record {
   by = λ k stay.
       ap (with_locals names allowed k stay) (pair_is items x y long a b) ∙ with_under names allowed k stay x y
       ∙ ap (λ o. elim o as (λ _. Prog) [ None ↦ stay | Some ls ↦ elim (allowed (symbols_of ls)) [ true ↦ k ls y | false ↦ stay ] ]) (sym some)
-      ∙ ap (λ c. elim c as (λ _. Prog) [ true ↦ k (locals_in ls) y | false ↦ stay ]) no;
+      ∙ ap (λ c. elim c as (λ _. Prog) [ true ↦ k (locals_in ls) y | false ↦ stay ]) refused;
 }
 
 pub read_scope : (names : Names) (allowed : List Sym → Bool) (items : List Tree) (x y : Tree) (ls : List Local) → length items ≡ 2 → x ≡ get_or items 0 x → y ≡ get_or items 1 y
     → locals_read (Some ls) ≡ locals_under names x → allowed (symbols_of (locals_in ls)) ≡ true → IsRead names allowed items (Some (record { locals = ls; body = y }))
-read_scope names allowed items x y ls long a b some yes = record {
+read_scope names allowed items x y ls long a b some granted = record {
   by = λ k stay.
       ap (with_locals names allowed k stay) (pair_is items x y long a b) ∙ with_under names allowed k stay x y
       ∙ ap (λ o. elim o as (λ _. Prog) [ None ↦ stay | Some ls ↦ elim (allowed (symbols_of ls)) [ true ↦ k ls y | false ↦ stay ] ]) (sym some)
-      ∙ ap (λ c. elim c as (λ _. Prog) [ true ↦ k (locals_in ls) y | false ↦ stay ]) yes;
+      ∙ ap (λ c. elim c as (λ _. Prog) [ true ↦ k (locals_in ls) y | false ↦ stay ]) granted;
 }
 
 pub ruleset read_steps = (read_other, read_nothing, read_refused, read_scope)

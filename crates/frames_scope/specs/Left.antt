@@ -29,5 +29,5 @@ left_module names f v =
 
 abbrev pub left_block : Names → Block → Option Tree → Prog
 left_block names (Block.Values a body) v = left_asking a v (λ ls. Within ls body Done)
-left_block names Block.Body None = Done (null names)
+left_block names Block.Body None = null names
 left_block names Block.Body (Some v) = Done v

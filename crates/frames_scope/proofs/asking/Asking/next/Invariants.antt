@@ -9,8 +9,8 @@ decreases-loop-self l = length l.self.locals - l.self.place
 
 abbrev pub invariant-loop-self : goal.invariant-loop-self
 invariant-loop-self l = record {
-  goes_on : (k : List p.Local → Prog) → left_asking l.fn.self.now l.fn.answer k ≡ left_asking l.self None k;
+  goes_on : (k : List p.Local → Prog) → left_asking l.fn.self l.fn.answer k ≡ left_asking l.self None k;
   quiet : l.self.asked ≡ None;
-  same : l.self.locals ≡ l.fn.self.now.locals;
-  later : l.fn.self.now.place ≤ l.self.place;
+  same : l.self.locals ≡ l.fn.self.locals;
+  later : l.fn.self.place ≤ l.self.place;
 }
