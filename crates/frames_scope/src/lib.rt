@@ -9,6 +9,8 @@ mod moves;
 mod placing;
 mod reading;
 mod symbols;
+#[cfg(test)]
+mod tests;
 
 pub use block_form::Block;
 pub use locals::{Local, Locals, Scope};
