@@ -9,6 +9,7 @@ mod moves;
 mod placing;
 mod reading;
 mod symbols;
+mod with_form;
 
 pub use block_form::Block;
 pub use locals::{Local, Locals, Scope};
@@ -16,3 +17,4 @@ pub use module_form::Module;
 pub use moves::Move;
 pub use placing::place;
 pub use reading::{block_scope, module_scope};
+pub use with_form::With;
