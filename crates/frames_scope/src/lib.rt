@@ -1,4 +1,4 @@
-//! Module, Block and With as machines, and the application of a Function.
+//! Module, Block and With as machines.
 #![tactic(auto)]
 
 mod asking;
@@ -11,6 +11,7 @@ mod reading;
 mod symbols;
 #[cfg(test)]
 mod tests;
+mod with_form;
 
 pub use block_form::Block;
 pub use locals::{Local, Locals, Scope};
@@ -18,3 +19,4 @@ pub use module_form::Module;
 pub use moves::Move;
 pub use placing::place;
 pub use reading::{block_scope, module_scope};
+pub use with_form::With;
