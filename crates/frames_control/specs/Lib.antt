@@ -1,0 +1,4 @@
+pub mod Turns
+pub mod Moving
+pub mod Choices
+pub mod Turning
