@@ -2,3 +2,4 @@ pub mod Turns
 pub mod Moving
 pub mod Choices
 pub mod Turning
+pub mod Frames

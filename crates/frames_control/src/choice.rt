@@ -1,13 +1,15 @@
 //! If: the value of one of its elements, or another that is known at once.
-ghost use Rattle.std.specs.Prelude.{◌≡◌, Option, Some, IfOk};
-ghost use Rattle.expr_tree.specs.Tree.{Tree};
+ghost use Rattle.std.specs.Prelude.{◌≡◌, ◌<◌, Some, IfOk};
 ghost use Rattle.semantics.specs.Program.{Prog};
 ghost use Rattle.semantics.specs.Control.{conditional};
 ghost use Rattle.evaluation_steps.specs.Moves.{Moved};
 ghost use Rattle.builtin_names.specs.Named.{HasBuiltins, names_in};
-ghost use Rattle.frames_control.specs.Moving.{moving, Starts};
+ghost use Rattle.frames_control.specs.Frames.{left};
+ghost use Rattle.frames_control.specs.declared.frame.Frame.{Frame as F};
+ghost use Rattle.frames_control.specs.Moving.{moving, IfAsks, Starts};
 ghost use Rattle.frames_control.specs.Choices.{left_chosen};
 
+use crate::frame::Frame;
 use crate::moves::Move;
 use builtin_names::{is_name, name};
 use evaluation_steps::Halt;
@@ -24,13 +26,9 @@ pub struct Chosen {
 
 impl Chosen {
     /// If.
-    pub fn conditional(
-        alloc: Global,
-        names: &Names,
-        items: &[Expr],
-    ) -> Result<Option<Chosen>, AllocError>
+    pub fn start(alloc: Global, names: &Names, items: &[Expr]) -> Result<Option<Frame>, AllocError>
         requires names { HasBuiltins names.now }
-        ensures { (stay : Prog) → Starts left_chosen (conditional (names_in names.now) stay items.now) stay result }
+        ensures { (stay : Prog) → Starts (left (names_in names.now)) (conditional (names_in names.now) stay items.now) stay result }
     {
         if items.len() < 2 || 4 < items.len() {
             return Ok(None);
@@ -40,9 +38,9 @@ impl Chosen {
         }
         if is_name(names, Builtin::False, &items[0]) {
             if items.len() == 2 {
-                return Ok(Some(Chosen {
+                return Ok(Some(Frame::Chosen(Chosen {
                     value: name(names, Builtin::Null),
-                }));
+                })));
             }
             return Chosen::of(alloc, &items[2]);
         }
@@ -52,16 +50,23 @@ impl Chosen {
         Ok(None)
     }
 
-    fn of(alloc: Global, value: &Expr) -> Result<Option<Chosen>, AllocError>
-        ensures { IfOk result (λ o. o ≡ Some (record { value = value.now })) }
+    fn of(alloc: Global, value: &Expr) -> Result<Option<Frame>, AllocError>
+        ensures { IfOk result (λ o. o ≡ Some (F.Chosen (record { value = value.now }))) }
     {
-        Ok(Some(Chosen {
+        Ok(Some(Frame::Chosen(Chosen {
             value: value.copy(alloc)?,
-        }))
+        })))
     }
 
-    pub fn step(&mut self, alloc: Global, limits: &Limits) -> Result<Move, Halt>
-        ensures { (answer : Option Tree) → Moved limits.now (left_chosen self.old answer) (moving result) (left_chosen self.new) }
+    /// The result, whatever the answer.
+    pub fn step(
+        &mut self,
+        alloc: Global,
+        limits: &Limits,
+        answer: Option<Expr>,
+    ) -> Result<Move, Halt>
+        ensures moved { Moved limits.now (left_chosen self.old answer) (moving result) (left_chosen self.new) }
+        ensures falls { IfAsks result (0 < 0) }
     {
         Ok(Move::Done(self.value.copy(alloc)?))
     }

@@ -4,9 +4,11 @@ ghost use Rattle.semantics.specs.Program.{Prog};
 ghost use Rattle.semantics.specs.Control.{connected};
 ghost use Rattle.evaluation_steps.specs.Moves.{Moved};
 ghost use Rattle.builtin_names.specs.Named.{HasBuiltins, names_in};
+ghost use Rattle.frames_control.specs.Frames.{left};
 ghost use Rattle.frames_control.specs.Moving.{moving, IfAsks, Starts};
 ghost use Rattle.frames_control.specs.Choices.{left_connected, row_of, ending_of, going_of};
 
+use crate::frame::Frame;
 use crate::moves::Move;
 use crate::stack::Stack;
 use builtin_names::{is_name, name};
@@ -68,15 +70,15 @@ impl Connected {
         names: &Names,
         connective: Connective,
         items: &[Expr],
-    ) -> Result<Option<Connected>, AllocError>
-        ensures { (stay : Prog) → Starts (left_connected (names_in names.now))
+    ) -> Result<Option<Frame>, AllocError>
+        ensures { (stay : Prog) → Starts (left (names_in names.now))
             (connected (names_in names.now) (row_of connective) (going_of connective) (ending_of connective) items.now []) stay result }
     {
-        Ok(Some(Connected {
+        Ok(Some(Frame::Connected(Connected {
             connective,
             rest: Stack::of(alloc, items)?,
             kept: Stack::new(alloc),
-        }))
+        })))
     }
 
     /// The result where no element is left: one value that was kept, or all of them.

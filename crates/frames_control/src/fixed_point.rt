@@ -4,13 +4,17 @@ ghost use Rattle.semantics.specs.Program.{Prog};
 ghost use Rattle.semantics.specs.Control.{fixed_point};
 ghost use Rattle.evaluation_steps.specs.Moves.{Moved};
 ghost use Rattle.evaluation_steps.specs.Stopping.{AreBounded};
+ghost use Rattle.builtin_names.specs.Named.{names_in};
+ghost use Rattle.frames_control.specs.Frames.{left};
 ghost use Rattle.frames_control.specs.Moving.{moving, IfAsks, Starts};
 ghost use Rattle.frames_control.specs.Turning.{left_fixed_point};
 
 use crate::countdown::{Countdown, MOST_TURNS};
+use crate::frame::Frame;
 use crate::moves::{Move, apply, one};
 use evaluation_steps::Halt;
 use expr_tree::{Expr, Limits, Stop};
+use name_table::Names;
 use std::alloc::{AllocError, Global};
 
 /// The function and the latest value.
@@ -22,17 +26,17 @@ pub struct FixedPoint {
 }
 
 impl FixedPoint {
-    pub fn start(alloc: Global, items: &[Expr]) -> Result<Option<FixedPoint>, AllocError>
-        ensures { (stay : Prog) → Starts left_fixed_point (fixed_point stay items.now) stay result }
+    pub fn start(alloc: Global, names: &Names, items: &[Expr]) -> Result<Option<Frame>, AllocError>
+        ensures { (stay : Prog) → Starts (left (names_in names.now)) (fixed_point stay items.now) stay result }
     {
         if items.len() != 2 {
             return Ok(None);
         }
-        Ok(Some(FixedPoint {
+        Ok(Some(Frame::FixedPoint(FixedPoint {
             function: items[0].copy(alloc)?,
             value: items[1].copy(alloc)?,
             turns: Countdown::from(MOST_TURNS),
-        }))
+        })))
     }
 
     fn turn(&mut self, alloc: Global, limits: &Limits) -> Result<Move, Halt>

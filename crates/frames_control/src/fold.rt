@@ -4,13 +4,17 @@ ghost use Rattle.semantics.specs.Program.{Prog, Done};
 ghost use Rattle.semantics.specs.Control.{fold, folded};
 ghost use Rattle.evaluation_steps.specs.Moves.{Moved};
 ghost use Rattle.evaluation_steps.specs.Stopping.{AreBounded};
+ghost use Rattle.builtin_names.specs.Named.{names_in};
+ghost use Rattle.frames_control.specs.Frames.{left};
 ghost use Rattle.frames_control.specs.Moving.{moving, IfAsks, Starts};
 ghost use Rattle.frames_control.specs.Turning.{left_fold};
 
+use crate::frame::Frame;
 use crate::moves::{Move, apply, two};
 use crate::stack::Stack;
 use evaluation_steps::Halt;
 use expr_tree::{Expr, Limits, Node};
+use name_table::Names;
 use std::alloc::{AllocError, Global};
 
 /// The function, the first value, and the elements that are left.
@@ -23,8 +27,8 @@ pub struct Fold {
 
 impl Fold {
     #[tactic(auto, using(expr_tree::proofs::Callers::tree_steps))]
-    pub fn start(alloc: Global, items: &[Expr]) -> Result<Option<Fold>, AllocError>
-        ensures { (stay : Prog) → Starts left_fold (fold stay items.now) stay result }
+    pub fn start(alloc: Global, names: &Names, items: &[Expr]) -> Result<Option<Frame>, AllocError>
+        ensures { (stay : Prog) → Starts (left (names_in names.now)) (fold stay items.now) stay result }
     {
         if items.len() != 3 {
             return Ok(None);
@@ -32,11 +36,11 @@ impl Fold {
         let Node::Normal(_, elements) = items[2].node() else {
             return Ok(None);
         };
-        Ok(Some(Fold {
+        Ok(Some(Frame::Fold(Fold {
             function: items[0].copy(alloc)?,
             first: items[1].copy(alloc)?,
             rest: Stack::of(alloc, elements.as_slice())?,
-        }))
+        })))
     }
 
     fn turn(&mut self, alloc: Global, limits: &Limits, value: Expr) -> Result<Move, Halt>

@@ -5,9 +5,11 @@ ghost use Rattle.semantics.specs.Control.{fold_list};
 ghost use Rattle.evaluation_steps.specs.Moves.{Moved};
 ghost use Rattle.evaluation_steps.specs.Stopping.{AreBounded};
 ghost use Rattle.builtin_names.specs.Named.{names_in};
+ghost use Rattle.frames_control.specs.Frames.{left};
 ghost use Rattle.frames_control.specs.Moving.{moving, IfAsks, Starts};
 ghost use Rattle.frames_control.specs.Turning.{left_fold_list, folds_list};
 
+use crate::frame::Frame;
 use crate::moves::{Move, apply, two};
 use crate::stack::Stack;
 use evaluation_steps::Halt;
@@ -27,12 +29,8 @@ pub struct FoldList {
 
 impl FoldList {
     #[tactic(auto, using(expr_tree::proofs::Callers::tree_steps))]
-    pub fn start(
-        alloc: Global,
-        names: &Names,
-        items: &[Expr],
-    ) -> Result<Option<FoldList>, AllocError>
-        ensures { (stay : Prog) → Starts left_fold_list (fold_list (names_in names.now) stay items.now) stay result }
+    pub fn start(alloc: Global, names: &Names, items: &[Expr]) -> Result<Option<Frame>, AllocError>
+        ensures { (stay : Prog) → Starts (left (names_in names.now)) (fold_list (names_in names.now) stay items.now) stay result }
     {
         if items.len() != 3 {
             return Ok(None);
@@ -40,13 +38,13 @@ impl FoldList {
         let Node::Normal(head, elements) = items[2].node() else {
             return Ok(None);
         };
-        Ok(Some(FoldList {
+        Ok(Some(Frame::FoldList(FoldList {
             function: items[0].copy(alloc)?,
             first: items[1].copy(alloc)?,
             head: head.copy(alloc)?,
             rest: Stack::of(alloc, elements.as_slice())?,
             done: Stack::new(alloc),
-        }))
+        })))
     }
 
     fn turn(&mut self, alloc: Global, limits: &Limits, value: Expr) -> Result<Move, Halt>

@@ -4,9 +4,11 @@ ghost use Rattle.semantics.specs.Program.{Prog};
 ghost use Rattle.semantics.specs.Control.{in_turn};
 ghost use Rattle.evaluation_steps.specs.Moves.{Moved};
 ghost use Rattle.builtin_names.specs.Named.{HasBuiltins, names_in};
+ghost use Rattle.frames_control.specs.Frames.{left};
 ghost use Rattle.frames_control.specs.Moving.{moving, IfAsks, Starts};
 ghost use Rattle.frames_control.specs.Choices.{left_in_turn};
 
+use crate::frame::Frame;
 use crate::moves::Move;
 use crate::stack::Stack;
 use builtin_names::name;
@@ -23,15 +25,15 @@ pub struct InTurn {
 }
 
 impl InTurn {
-    pub fn start(alloc: Global, names: &Names, items: &[Expr]) -> Result<Option<InTurn>, AllocError>
-        ensures { (stay : Prog) → Starts (left_in_turn (names_in names.now)) (in_turn stay items.now) stay result }
+    pub fn start(alloc: Global, names: &Names, items: &[Expr]) -> Result<Option<Frame>, AllocError>
+        ensures { (stay : Prog) → Starts (left (names_in names.now)) (in_turn stay items.now) stay result }
     {
         if items.is_empty() {
             return Ok(None);
         }
-        Ok(Some(InTurn {
+        Ok(Some(Frame::InTurn(InTurn {
             rest: Stack::of(alloc, items)?,
-        }))
+        })))
     }
 
     /// With no element left the answer is the value.

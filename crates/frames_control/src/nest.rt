@@ -4,13 +4,17 @@ ghost use Rattle.semantics.specs.Program.{Prog, Done};
 ghost use Rattle.semantics.specs.Control.{nest, nested};
 ghost use Rattle.evaluation_steps.specs.Moves.{Moved};
 ghost use Rattle.evaluation_steps.specs.Stopping.{AreBounded};
+ghost use Rattle.builtin_names.specs.Named.{names_in};
+ghost use Rattle.frames_control.specs.Frames.{left};
 ghost use Rattle.frames_control.specs.Moving.{moving, IfAsks, Starts};
 ghost use Rattle.frames_control.specs.Turning.{left_nest};
 
 use crate::countdown::{Countdown, turns_of};
+use crate::frame::Frame;
 use crate::moves::{Move, apply, one};
 use evaluation_steps::Halt;
 use expr_tree::{Expr, Limits};
+use name_table::Names;
 use std::alloc::{AllocError, Global};
 
 /// The function, what it is applied to first, and how often it is still to be applied.
@@ -22,8 +26,8 @@ pub struct Nest {
 }
 
 impl Nest {
-    pub fn start(alloc: Global, items: &[Expr]) -> Result<Option<Nest>, AllocError>
-        ensures { (stay : Prog) → Starts left_nest (nest stay items.now) stay result }
+    pub fn start(alloc: Global, names: &Names, items: &[Expr]) -> Result<Option<Frame>, AllocError>
+        ensures { (stay : Prog) → Starts (left (names_in names.now)) (nest stay items.now) stay result }
     {
         if items.len() != 3 {
             return Ok(None);
@@ -31,11 +35,11 @@ impl Nest {
         let Some(turns) = turns_of(&items[2]) else {
             return Ok(None);
         };
-        Ok(Some(Nest {
+        Ok(Some(Frame::Nest(Nest {
             function: items[0].copy(alloc)?,
             first: items[1].copy(alloc)?,
             turns,
-        }))
+        })))
     }
 
     fn turn(&mut self, alloc: Global, limits: &Limits, value: Expr) -> Result<Move, Halt>

@@ -5,10 +5,12 @@ ghost use Rattle.semantics.specs.Control.{nest_list};
 ghost use Rattle.evaluation_steps.specs.Moves.{Moved};
 ghost use Rattle.evaluation_steps.specs.Stopping.{AreBounded};
 ghost use Rattle.builtin_names.specs.Named.{HasBuiltins, names_in};
+ghost use Rattle.frames_control.specs.Frames.{left};
 ghost use Rattle.frames_control.specs.Moving.{moving, IfAsks, Starts};
 ghost use Rattle.frames_control.specs.Turning.{left_nest_list, nests_list};
 
 use crate::countdown::{Countdown, turns_of};
+use crate::frame::Frame;
 use crate::moves::{Move, apply, one};
 use crate::stack::Stack;
 use builtin_names::name;
@@ -28,12 +30,8 @@ pub struct NestList {
 }
 
 impl NestList {
-    pub fn start(
-        alloc: Global,
-        names: &Names,
-        items: &[Expr],
-    ) -> Result<Option<NestList>, AllocError>
-        ensures { (stay : Prog) → Starts (left_nest_list (names_in names.now)) (nest_list (names_in names.now) stay items.now) stay result }
+    pub fn start(alloc: Global, names: &Names, items: &[Expr]) -> Result<Option<Frame>, AllocError>
+        ensures { (stay : Prog) → Starts (left (names_in names.now)) (nest_list (names_in names.now) stay items.now) stay result }
     {
         if items.len() != 3 {
             return Ok(None);
@@ -41,12 +39,12 @@ impl NestList {
         let Some(turns) = turns_of(&items[2]) else {
             return Ok(None);
         };
-        Ok(Some(NestList {
+        Ok(Some(Frame::NestList(NestList {
             function: items[0].copy(alloc)?,
             first: items[1].copy(alloc)?,
             turns,
             done: Stack::new(alloc),
-        }))
+        })))
     }
 
     fn turn(

@@ -5,9 +5,11 @@ ghost use Rattle.semantics.specs.Control.{select};
 ghost use Rattle.evaluation_steps.specs.Moves.{Moved};
 ghost use Rattle.evaluation_steps.specs.Stopping.{AreBounded};
 ghost use Rattle.builtin_names.specs.Named.{HasBuiltins, names_in};
+ghost use Rattle.frames_control.specs.Frames.{left};
 ghost use Rattle.frames_control.specs.Moving.{moving, IfAsks, Starts};
 ghost use Rattle.frames_control.specs.Turning.{left_select, without_last};
 
+use crate::frame::Frame;
 use crate::moves::{Move, apply, one};
 use crate::stack::Stack;
 use builtin_names::is_name;
@@ -29,8 +31,8 @@ pub struct Select {
 
 impl Select {
     #[tactic(auto, using(expr_tree::proofs::Callers::tree_steps))]
-    pub fn start(alloc: Global, names: &Names, items: &[Expr]) -> Result<Option<Select>, AllocError>
-        ensures { (stay : Prog) → Starts (left_select (names_in names.now)) (select (names_in names.now) stay items.now) stay result }
+    pub fn start(alloc: Global, names: &Names, items: &[Expr]) -> Result<Option<Frame>, AllocError>
+        ensures { (stay : Prog) → Starts (left (names_in names.now)) (select (names_in names.now) stay items.now) stay result }
     {
         if items.len() != 2 {
             return Ok(None);
@@ -38,12 +40,12 @@ impl Select {
         let Node::Normal(head, elements) = items[0].node() else {
             return Ok(None);
         };
-        Ok(Some(Select {
+        Ok(Some(Frame::Select(Select {
             function: items[1].copy(alloc)?,
             head: head.copy(alloc)?,
             rest: Stack::of(alloc, elements.as_slice())?,
             kept: Stack::new(alloc),
-        }))
+        })))
     }
 
     fn turn(&mut self, alloc: Global, names: &Names, limits: &Limits) -> Result<Move, Halt>

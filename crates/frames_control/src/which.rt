@@ -4,9 +4,11 @@ ghost use Rattle.semantics.specs.Program.{Prog};
 ghost use Rattle.semantics.specs.Control.{which};
 ghost use Rattle.evaluation_steps.specs.Moves.{Moved};
 ghost use Rattle.builtin_names.specs.Named.{HasBuiltins, names_in};
+ghost use Rattle.frames_control.specs.Frames.{left};
 ghost use Rattle.frames_control.specs.Moving.{moving, IfAsks, Starts};
 ghost use Rattle.frames_control.specs.Choices.{left_which, tested};
 
+use crate::frame::Frame;
 use crate::moves::{Move, one};
 use crate::stack::Stack;
 use builtin_names::{is_name, name};
@@ -23,15 +25,15 @@ pub struct Which {
 }
 
 impl Which {
-    pub fn start(alloc: Global, names: &Names, items: &[Expr]) -> Result<Option<Which>, AllocError>
-        ensures { (stay : Prog) → Starts (left_which (names_in names.now)) (which (names_in names.now) stay items.now) stay result }
+    pub fn start(alloc: Global, names: &Names, items: &[Expr]) -> Result<Option<Frame>, AllocError>
+        ensures { (stay : Prog) → Starts (left (names_in names.now)) (which (names_in names.now) stay items.now) stay result }
     {
         if items.len() % 2 == 1 {
             return Ok(None);
         }
-        Ok(Some(Which {
+        Ok(Some(Frame::Which(Which {
             rest: Stack::of(alloc, items)?,
-        }))
+        })))
     }
 
     fn next_test(&mut self, alloc: Global, names: &Names, limits: &Limits) -> Result<Move, Halt>

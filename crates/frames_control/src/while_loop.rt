@@ -4,10 +4,12 @@ ghost use Rattle.semantics.specs.Program.{Prog};
 ghost use Rattle.semantics.specs.Control.{while, while_true};
 ghost use Rattle.evaluation_steps.specs.Moves.{Moved};
 ghost use Rattle.builtin_names.specs.Named.{HasBuiltins, names_in};
+ghost use Rattle.frames_control.specs.Frames.{left};
 ghost use Rattle.frames_control.specs.Moving.{moving, IfAsks, Starts};
 ghost use Rattle.frames_control.specs.Turning.{left_while, tests_left};
 
 use crate::countdown::{Countdown, MOST_TURNS};
+use crate::frame::Frame;
 use crate::moves::Move;
 use builtin_names::{is_name, name};
 use evaluation_steps::Halt;
@@ -26,18 +28,18 @@ pub struct While {
 }
 
 impl While {
-    pub fn start(alloc: Global, names: &Names, items: &[Expr]) -> Result<Option<While>, AllocError>
-        ensures { (stay : Prog) → Starts (left_while (names_in names.now)) (while (names_in names.now) stay items.now) stay result }
+    pub fn start(alloc: Global, names: &Names, items: &[Expr]) -> Result<Option<Frame>, AllocError>
+        ensures { (stay : Prog) → Starts (left (names_in names.now)) (while (names_in names.now) stay items.now) stay result }
     {
         if items.len() != 2 {
             return Ok(None);
         }
-        Ok(Some(While {
+        Ok(Some(Frame::While(While {
             test: items[0].copy(alloc)?,
             body: items[1].copy(alloc)?,
             turns: Countdown::from(MOST_TURNS),
             testing: false,
-        }))
+        })))
     }
 
     fn turn(&mut self, alloc: Global, names: &Names, limits: &Limits) -> Result<Move, Halt>

@@ -2,5 +2,5 @@ use Rattle.std.proofs.Common.{◌≡◌, ◌∙◌, refl, sym, ap, reverse, List
 use Rattle.frames_control.proofs.Shown.{shown, fits_shown, stops, halts, asking}
 use Rattle.frames_control.proofs.choice.Chosen.step.Goals as goal
 
-pub returns : goal.returns
-returns c = λ answer. shown (rw c.in_ok-copy.ensures refl)
+pub returns-clause-moved : goal.returns-clause-moved
+returns-clause-moved c = shown (rw c.in_ok-copy.ensures refl)
