@@ -1,5 +1,5 @@
 -- The programs of the forms that choose, by their heads.
-use Rattle.std.proofs.Common.{◌≡◌, ◌∙◌, refl, ap, ℕ, ◌%◌, length, List, [], ◌∷◌, Option, Some, None, Ok, Bool, true, false, arith}
+use Rattle.std.proofs.Common.{◌≡◌, ◌∙◌, refl, ap, ◌%◌, length, List, [], ◌∷◌, Option, Some, None, Ok, Bool, true, false, arith}
 use Rattle.std.proofs.Math.Path.{fun_ext}
 use Rattle.std.specs.Prelude.{reverse}
 use Rattle.expr_tree.specs.Tree.{Tree}

@@ -1,5 +1,5 @@
 -- The programs of the turn forms, by their heads.
-use Rattle.std.proofs.Common.{◌≡◌, ◌∙◌, refl, sym, ap, subst, ℕ, length, get_or, List, [], ◌∷◌, Option, Some, None, Bool, true, false, Result, arith}
+use Rattle.std.proofs.Common.{◌≡◌, ◌∙◌, sym, ap, subst, ℕ, length, get_or, List, [], ◌∷◌, Option, Some, None, Bool, true, false, Result, arith}
 use Rattle.std.specs.Prelude.{MatchOption}
 use Rattle.expr_tree.specs.Tree.{Tree, call}
 use Rattle.expr_tree.specs.Order.{same}

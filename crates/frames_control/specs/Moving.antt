@@ -2,7 +2,7 @@
 --     moving                what a step answers
 --     IfAsks                where the step asks
 --     Starts                a form begins with a machine, or stays as it is
-use Rattle.std.specs.Prelude.{◌≡◌, ◌<◌, ℕ, Bool, List, [], ◌∷◌, Option, Some, None, Result, Ok, Err}
+use Rattle.std.specs.Prelude.{◌≡◌, List, [], ◌∷◌, Option, Some, None, Result, Ok, Err}
 use Rattle.expr_tree.specs.Tree.{Tree, call}
 use Rattle.semantics.specs.Program as p
 use Rattle.semantics.specs.Program.{Prog}

@@ -1,6 +1,6 @@
 -- What the machines of the turn forms stand for: the program that is left, before an answer and after.
 --     left_nest, left_nest_list, left_fold, left_fold_list, left_fixed_point, left_select, left_while
-use Rattle.std.specs.Prelude.{ℕ, ◌+◌, ◌*◌, List, [], ◌∷◌, Bool, true, false, Option, Some, None}
+use Rattle.std.specs.Prelude.{ℕ, ◌+◌, ◌*◌, List, [], ◌∷◌, true, false, Option, Some, None}
 use Rattle.expr_tree.specs.Tree.{Tree, call}
 use Rattle.expr_tree.specs.Order.{same}
 use Rattle.semantics.specs.declared.builtin.Builtin.{Builtin}

@@ -1,5 +1,5 @@
-use Rattle.std.proofs.Common.{◌≡◌, ◌∙◌, refl, sym, ap, reverse, List, [], ◌∷◌, Option, Some, None, true, false, Ok, Err}
-use Rattle.frames_control.proofs.Shown.{shown, fits_shown, stops, halts, asking}
+use Rattle.std.proofs.Common.{refl}
+use Rattle.frames_control.proofs.Shown.{fits_shown, halts}
 use Rattle.expr_tree.specs.Tree.{call}
 use Rattle.frames_control.proofs.moves.apply.Goals as goal
 

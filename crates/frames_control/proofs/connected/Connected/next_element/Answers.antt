@@ -1,5 +1,5 @@
-use Rattle.std.proofs.Common.{◌≡◌, ◌∙◌, refl, sym, ap, reverse, List, [], ◌∷◌, Option, Some, None, true, false, Ok, Err}
-use Rattle.frames_control.proofs.Shown.{shown, fits_shown, stops, halts, asking}
+use Rattle.std.proofs.Common.{refl}
+use Rattle.frames_control.proofs.Shown.{shown}
 use Rattle.frames_control.proofs.connected.Connected.next_element.Goals as goal
 
 pub returns-in-Some-clause-moved : goal.returns-in-Some-clause-moved

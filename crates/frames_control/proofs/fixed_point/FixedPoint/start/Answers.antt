@@ -1,7 +1,4 @@
-use Rattle.std.proofs.Common.{◌≡◌, ◌∙◌, refl, sym, ap, reverse, length, List, [], ◌∷◌, Option, Some, None, Bool, true, false, Ok, Err, arith}
-use Rattle.frames_control.proofs.Shown.{shown, fits_shown, stops, halts, asking}
-use Rattle.frames_control.proofs.Turns.{applies, moved_as}
-use Rattle.builtin_names.specs.Named.{names_in}
+use Rattle.std.proofs.Common.{arith}
 use Rattle.frames_control.proofs.Turns.{fixed_starts}
 use Rattle.frames_control.proofs.fixed_point.FixedPoint.start.Goals as goal
 

@@ -1,7 +1,5 @@
-use Rattle.std.proofs.Common.{◌≡◌, ◌∙◌, refl, sym, ap, reverse, length, List, [], ◌∷◌, Option, Some, None, Bool, true, false, Ok, Err, arith}
-use Rattle.frames_control.proofs.Shown.{shown, fits_shown, stops, halts, asking}
-use Rattle.frames_control.proofs.Turns.{applies, moved_as}
-use Rattle.builtin_names.specs.Named.{names_in}
+use Rattle.std.proofs.Common.{◌∙◌, sym, ap}
+use Rattle.frames_control.proofs.Shown.{shown}
 use Rattle.frames_control.specs.Turning.{left_fixed_point}
 use Rattle.frames_control.proofs.Turns.{fixed_done}
 use Rattle.frames_control.proofs.fixed_point.FixedPoint.step.Goals as goal

@@ -1,7 +1,6 @@
-use Rattle.std.proofs.Common.{◌≡◌, ◌∙◌, refl, sym, ap, reverse, length, List, [], ◌∷◌, Option, Some, None, Bool, true, false, Ok, Err, arith}
-use Rattle.frames_control.proofs.Shown.{shown, fits_shown, stops, halts, asking}
-use Rattle.frames_control.proofs.Turns.{applies, moved_as}
-use Rattle.builtin_names.specs.Named.{names_in}
+use Rattle.std.proofs.Common.{refl, [], ◌∷◌}
+use Rattle.frames_control.proofs.Shown.{stops}
+use Rattle.frames_control.proofs.Turns.{applies}
 use Rattle.frames_control.proofs.fixed_point.FixedPoint.turn.Goals as goal
 
 pub returns-then-not-take-clause-moved : goal.returns-then-not-take-clause-moved

@@ -1,7 +1,6 @@
-use Rattle.std.proofs.Common.{◌≡◌, ◌∙◌, refl, sym, ap, reverse, length, List, [], ◌∷◌, Option, Some, None, Bool, true, false, Ok, Err, arith}
-use Rattle.frames_control.proofs.Shown.{shown, fits_shown, stops, halts, asking}
-use Rattle.frames_control.proofs.Turns.{applies, moved_as}
-use Rattle.builtin_names.specs.Named.{names_in}
+use Rattle.std.proofs.Common.{refl, [], ◌∷◌}
+use Rattle.frames_control.proofs.Shown.{shown}
+use Rattle.frames_control.proofs.Turns.{applies}
 use Rattle.frames_control.proofs.fold_list.FoldList.turn.Goals as goal
 
 pub returns-in_ok-copy-in-None-clause-moved : goal.returns-in_ok-copy-in-None-clause-moved

@@ -1,4 +1,3 @@
-use Rattle.std.proofs.Common.{◌≡◌, refl}
 use Rattle.semantics.specs.Table.{row}
 use Rattle.frames_control.proofs.frame.Frame.start.Goals as goal
 

@@ -1,5 +1,5 @@
-use Rattle.std.proofs.Common.{◌≡◌, ◌∙◌, refl, sym, ap, reverse, List, [], ◌∷◌, Option, Some, None, true, false, Ok, Err}
-use Rattle.frames_control.proofs.Shown.{shown, fits_shown, stops, halts, asking}
+use Rattle.std.proofs.Common.{refl}
+use Rattle.frames_control.proofs.Shown.{shown}
 use Rattle.builtin_names.specs.Named.{names_in}
 use Rattle.frames_control.proofs.Choosing.{test_asked}
 use Rattle.frames_control.proofs.which.Which.next_test.Goals as goal

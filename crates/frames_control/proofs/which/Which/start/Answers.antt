@@ -1,6 +1,4 @@
-use Rattle.std.proofs.Common.{◌≡◌, ◌∙◌, refl, sym, ap, reverse, length, List, [], ◌∷◌, Option, Some, None, Bool, true, false, Ok, Err, arith}
-use Rattle.frames_control.proofs.Shown.{shown, fits_shown, stops, halts, asking}
-use Rattle.frames_control.proofs.Turns.{applies, moved_as}
+use Rattle.std.proofs.Common.{arith}
 use Rattle.builtin_names.specs.Named.{names_in}
 use Rattle.frames_control.proofs.Choosing.{which_odd, which_even, odd_count, even_count}
 use Rattle.frames_control.proofs.which.Which.start.Goals as goal

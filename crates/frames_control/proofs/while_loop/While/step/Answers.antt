@@ -1,6 +1,5 @@
-use Rattle.std.proofs.Common.{◌≡◌, ◌∙◌, refl, sym, ap, reverse, length, List, [], ◌∷◌, Option, Some, None, Bool, true, false, Ok, Err, arith}
-use Rattle.frames_control.proofs.Shown.{shown, fits_shown, stops, halts, asking}
-use Rattle.frames_control.proofs.Turns.{applies, moved_as}
+use Rattle.std.proofs.Common.{◌≡◌, ◌∙◌, sym, ap, true, false}
+use Rattle.frames_control.proofs.Shown.{shown}
 use Rattle.builtin_names.specs.Named.{names_in}
 use Rattle.semantics.specs.declared.builtin.Builtin.{Builtin}
 use Rattle.semantics.specs.Names.{is_name}
