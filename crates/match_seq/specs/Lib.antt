@@ -1,0 +1,4 @@
+pub mod Forms
+pub mod Search
+pub mod Goals
+pub mod Origin
