@@ -69,7 +69,7 @@ use_level setting level = use_first setting level.pattern (level_parts setting l
 abbrev pub reach : Setting → Goal → Next → Next
 reach setting (goal.Take p run) next found = find_pattern setting p run next found
 reach setting (goal.Fill level es) next found = fill setting level.pattern (level_parts setting level) es next found
-reach setting (goal.Runs level n es) next found = find_runs (use_level setting level next found) (take n es) (drop n es)
+reach setting (goal.Runs level n more es) next found = find_runs (use_level setting level next found) more (take n es) (drop n es)
 reach setting (goal.Sizes level size more es) next found = find_sizes (use_level setting level next found) size more es
 reach setting (goal.Choose level n c) next found =
     find_choices (use_level setting level next found) n c.taken c.left (drop c.at c.elements)

@@ -75,6 +75,34 @@ abbrev mutual
   second_is_single constructs nil = false
   second_is_single constructs (cons p ps) = first_is_single constructs ps
 
+-- whether a pattern takes no run of two or more, as its outermost forms tell
+abbrev pub short_form : Form → Bool → Bool → Bool
+short_form (form.One) first second = true
+short_form (form.OneOf) first second = true
+short_form (form.Named) first second = second
+short_form (form.Tested) first second = first
+short_form (form.Conditioned) first second = first
+short_form (form.Held) first second = first
+short_form (form.Verbatim) first second = true
+short_form (form.Ordinary) first second = true
+short_form _ first second = false
+
+abbrev mutual
+  pub is_short : Constructs → Tree → Bool
+  is_short constructs (integer n) = true
+  is_short constructs (string t) = true
+  is_short constructs (symbol s) = true
+  is_short constructs (normal h ps) =
+      short_form (form_of constructs h (count ps)) (first_is_short constructs ps) (second_is_short constructs ps)
+
+  pub first_is_short : Constructs → Trees → Bool
+  first_is_short constructs nil = false
+  first_is_short constructs (cons p ps) = is_short constructs p
+
+  pub second_is_short : Constructs → Trees → Bool
+  second_is_short constructs nil = false
+  second_is_short constructs (cons p ps) = first_is_short constructs ps
+
 -- under Flat a run of several elements is wrapped in the head for a single blank
 abbrev pub wrapped : Bool → Tree → List Tree → List Tree
 wrapped wrapping h run = if wrapping && ltb 1 (length run) then call h run ∷ [] else run
@@ -89,10 +117,11 @@ abbrev pub find_bound : Sym → List Tree → Next → Next
 find_bound s run next found =
     elim (value_of found.binding s) [ None ↦ next (bound s run found) | Some old ↦ go_on (same_run old run) next found ]
 
--- the beginnings of a list, the shortest first
-abbrev pub find_runs : Use → List Tree → List Tree → Search
-find_runs fit taken [] = step (fit taken [])
-find_runs fit taken (e ∷ es) = fork (fit taken (e ∷ es)) (find_runs fit (taken ++ e ∷ []) es)
+-- what was taken, and that with up to so many elements more, the shortest first
+abbrev pub find_runs : Use → ℕ → List Tree → List Tree → Search
+find_runs fit zero taken es = step (fit taken es)
+find_runs fit (suc more) taken [] = step (fit taken [])
+find_runs fit (suc more) taken (e ∷ es) = fork (fit taken (e ∷ es)) (find_runs fit more (taken ++ e ∷ []) es)
 
 -- the sub-lists of one size
 abbrev pub find_choices : Use → ℕ → List Tree → List Tree → List Tree → Search
@@ -106,9 +135,13 @@ abbrev pub find_sizes : Use → ℕ → ℕ → List Tree → Search
 find_sizes fit size zero es = step (find_choices fit size [] [] es)
 find_sizes fit size (suc more) es = fork (find_choices fit size [] [] es) (find_sizes fit (suc size) more es)
 
-abbrev pub find_ways : Bool → Use → List Tree → Search
-find_ways true fit es = find_sizes fit 0 (length es) es
-find_ways false fit es = find_runs fit [] es
+-- the greatest number of elements that a run needs to have, which is 1 for a short pattern
+abbrev pub most : Bool → List Tree → ℕ
+most short es = if short then 1 else length es
+
+abbrev pub find_ways : Bool → ℕ → Use → List Tree → Search
+find_ways true most fit es = find_sizes fit 0 most es
+find_ways false most fit es = find_runs fit most [] es
 
 -- what the first element pattern does with a run, where the others take what is left
 abbrev pub find_first : Bool → Tree → Part → (List Tree → Next → Next) → Next → Found → Use
@@ -117,12 +150,16 @@ find_first wrapping h p others next found run left = p.finder (wrapped wrapping 
 abbrev pub wraps : Constructs → Matching → Tree → Bool
 wraps constructs how p = how.flat && is_single constructs p
 
+-- a single blank that takes a wrapped run is not short
+abbrev pub stays_short : Constructs → Matching → Tree → Bool
+stays_short constructs how p = if wraps constructs how p then false else is_short constructs p
+
 -- element patterns are filled from left to right
 abbrev pub find_items : Constructs → Matching → Tree → List Part → Finder
 find_items constructs how h [] [] next found = step (next found)
 find_items constructs how h [] (e ∷ es) next found = step dead
 find_items constructs how h (p ∷ ps) es next found =
-    step (find_ways how.orderless (find_first (wraps constructs how p.tree) h p (find_items constructs how h ps) next found) es)
+    step (find_ways how.orderless (most (stays_short constructs how p.tree) es) (find_first (wraps constructs how p.tree) h p (find_items constructs how h ps) next found) es)
 
 abbrev pub find_normal : Constructs → Matching → Tree → Finder → List Part → Finder
 find_normal constructs how h head ps (normal g es ∷ []) next found =

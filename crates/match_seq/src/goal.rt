@@ -16,8 +16,8 @@ pub(crate) enum Goal {
     Take(Expr, Exprs),
     /// Element patterns are filled with elements.
     Fill(Level, Exprs),
-    /// The first element pattern takes a number of elements or more, from the front.
-    Runs(Level, usize, Exprs),
+    /// The first element pattern takes a number of elements from the front, or up to so many more.
+    Runs(Level, usize, usize, Exprs),
     /// The first element pattern takes a sub-list of this size, or of one of so many sizes above it.
     Sizes(Level, usize, usize, Exprs),
     /// The first element pattern takes what was taken, and this many of the elements from a place on.
