@@ -5,7 +5,7 @@ use Rattle.expr_tree.specs.Tree.{Tree, integer, string, symbol, normal, Trees, n
 use Rattle.expr_tree.specs.Substitution.{value_of}
 use Rattle.semantics.specs.Match as match
 use Rattle.semantics.specs.Match.{Guard, Test, Cond, Found, Matching, Matcher, Element, Taken, also_taken, also_left, runs, choices, choices_up_to, ways, joined, same_run, have_head, guarded, when, bind, literal, match_items, match_normal, match_any, match_named, how_of, Kind, blank, sequence, null_sequence, pattern, test, condition, alternatives, hold, verbatim, other, kind, construct, matcher, matchers, matches, nothing_found}
-use Rattle.match_seq.specs.Search.{Search, dead, answer, step, fork, answers, Next, Finder, Part, Use, go_on, find_literal, bound, find_bound, find_runs, find_choices, find_sizes, find_ways, find_first, find_items, find_normal, find_any, find_named, find_form, adding, find, parts, wraps, most, short_form, is_short, first_is_short, second_is_short, stays_short}
+use Rattle.match_seq.specs.Search.{Search, dead, answer, step, fork, answers, Next, Finder, Part, Use, go_on, go_with, find_literal, bound, find_bound, find_runs, find_choices, find_sizes, find_ways, find_first, find_items, find_normal, find_any, find_named, find_form, adding, find, parts, wraps, most, short_form, is_short, first_is_short, second_is_short, stays_short}
 use Rattle.semantics.specs.Names.{Names}
 use Rattle.expr_tree.specs.Order.{same}
 use Rattle.match_seq.specs.declared.constructs.Constructs.{Constructs}
@@ -149,7 +149,7 @@ length_some [] = refl
 length_some (e ∷ run) = lt-ltb 0 (length (e ∷ run)) (omega arith)
 
 abbrev find_by : Sym → List Tree → Option (List Tree) → Next → Next
-find_by s run old next found = elim old [ None ↦ next (bound s run found) | Some old ↦ go_on (same_run old run) next found ]
+find_by s run old next found = go_with (elim old [ None ↦ Some (bound s run found) | Some old ↦ if same_run old run then Some found else None ]) next
 
 abbrev bind_by : Sym → List Tree → Option (List Tree) → Found → List Found
 bind_by s run old found =
@@ -163,7 +163,7 @@ finds_bound s run None finder m is next found =
     is run next (bound s run found) ∙ sym (ap (λ fs. joined (map (answers_of next) fs)) (joined-one (m run) (bound s run found)))
 finds_bound s run (Some old) finder m is next found = by_same (same_run old run)
   where
-    by_same : (b : Bool) → answers (go_on b (finder run next) found) ≡ joined (map (answers_of next) (joined (map (m run) (elim b [ true ↦ found ∷ [] | false ↦ [] ]))))
+    by_same : (b : Bool) → answers (go_with (if b then Some found else None) (finder run next)) ≡ joined (map (answers_of next) (joined (map (m run) (elim b [ true ↦ found ∷ [] | false ↦ [] ]))))
     by_same true = is run next found ∙ sym (ap (λ fs. joined (map (answers_of next) fs)) (joined-one (m run) found))
     by_same false = refl
 
@@ -213,7 +213,7 @@ short_bound : (s : Sym) (finder : Finder) (old : Option (List Tree)) → ShortFi
 short_bound s finder None short run next found long = short run next (bound s run found) long
 short_bound s finder (Some old) short run next found long = by_same (same_run old run)
   where
-    by_same : (b : Bool) → answers (go_on b (finder run next) found) ≡ []
+    by_same : (b : Bool) → answers (go_with (if b then Some found else None) (finder run next)) ≡ []
     by_same true = short run next found long
     by_same false = refl
 

@@ -1,3 +1,4 @@
 pub mod Joins
 pub mod KindForms
 pub mod Complete
+pub mod Places

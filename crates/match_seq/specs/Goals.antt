@@ -5,7 +5,7 @@
 --     goals                 the search of several goals, the last one first
 --     branch, after         the search of a branch; of what one step leads to
 --     left, work            the answers of a stack of branches, the last one first; the steps to them
-use Rattle.std.specs.Prelude.{ℕ, ◌+◌, List, [], ◌∷◌, ◌++◌, map, take, drop, false, Option, Some, None, if◌then◌else◌}
+use Rattle.std.specs.Prelude.{ℕ, ◌+◌, ◌-◌, List, [], ◌∷◌, ◌++◌, map, take, drop, false, Option, Some, None, if◌then◌else◌}
 use Rattle.expr_tree.specs.declared.sym.Sym.{Sym}
 use Rattle.expr_tree.specs.Same.{symbol_eq}
 use Rattle.expr_tree.specs.Tree.{Tree, normal, trees}
@@ -69,8 +69,8 @@ use_level setting level = use_first setting level.pattern (level_parts setting l
 abbrev pub reach : Setting → Goal → Next → Next
 reach setting (goal.Take p run) next found = find_pattern setting p run next found
 reach setting (goal.Fill level es) next found = fill setting level.pattern (level_parts setting level) es next found
-reach setting (goal.Runs level n more es) next found = find_runs (use_level setting level next found) more (take n es) (drop n es)
-reach setting (goal.Sizes level size more es) next found = find_sizes (use_level setting level next found) size more es
+reach setting (goal.Runs level n end es) next found = find_runs (use_level setting level next found) (end - n) (take n es) (drop n es)
+reach setting (goal.Sizes level size end es) next found = find_sizes (use_level setting level next found) size (end - size) es
 reach setting (goal.Choose level n c) next found =
     find_choices (use_level setting level next found) n c.taken c.left (drop c.at c.elements)
 reach setting (goal.OneOf level run) next found = find_any (level_parts setting level) run next found

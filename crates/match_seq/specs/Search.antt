@@ -2,7 +2,7 @@
 --     Search                a search that has ended, with or without an answer, or that goes on, in one way or in two
 --     answers, steps        its answers, from left to right; the number of its steps
 --     find                  the search of a pattern in a run; what was found so far goes on with `next`
-use Rattle.std.specs.Prelude.{ℕ, zero, suc, ◌+◌, List, [], ◌∷◌, ◌++◌, map, length, Bool, true, false, ◌&&◌, ◌==◌, leb, ltb, None, Some, if◌then◌else◌}
+use Rattle.std.specs.Prelude.{ℕ, zero, suc, ◌+◌, List, [], ◌∷◌, ◌++◌, map, length, Bool, true, false, ◌&&◌, ◌==◌, leb, ltb, Option, None, Some, if◌then◌else◌}
 use Rattle.expr_tree.specs.declared.sym.Sym.{Sym}
 use Rattle.expr_tree.specs.Tree.{Tree, integer, string, symbol, normal, Trees, nil, cons, elements, call, count}
 use Rattle.expr_tree.specs.Substitution.{value_of}
@@ -113,9 +113,17 @@ find_literal p run next found = step (go_on (same_run (p ∷ []) run) next found
 abbrev pub bound : Sym → List Tree → Found → Found
 bound s run found = record { binding = found.binding ++ (s, run) ∷ []; guards = found.guards }
 
+-- what is found where a name is bound to a run; nothing where it has another run already
+abbrev pub bind_run : Sym → List Tree → Found → Option Found
+bind_run s run found =
+    elim (value_of found.binding s) [ None ↦ Some (bound s run found) | Some old ↦ if same_run old run then Some found else None ]
+
+abbrev pub go_with : Option Found → Next → Search
+go_with None next = dead
+go_with (Some found) next = next found
+
 abbrev pub find_bound : Sym → List Tree → Next → Next
-find_bound s run next found =
-    elim (value_of found.binding s) [ None ↦ next (bound s run found) | Some old ↦ go_on (same_run old run) next found ]
+find_bound s run next found = go_with (bind_run s run found) next
 
 -- what was taken, and that with up to so many elements more, the shortest first
 abbrev pub find_runs : Use → ℕ → List Tree → List Tree → Search

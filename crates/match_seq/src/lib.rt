@@ -5,5 +5,6 @@ mod constructs;
 mod found;
 mod goal;
 mod setting;
+mod shapes;
 
 pub use found::{Found, Guard, Guards};
