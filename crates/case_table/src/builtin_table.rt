@@ -1,11 +1,11 @@
 ghost use Rattle.std.specs.Prelude.{◌≡◌, map};
 ghost use Rattle.semantics.specs.Builtin.{rows};
 ghost use Rattle.semantics.specs.Texts.{row_text};
-ghost use Rattle.case_table.specs.Entries.{entries, builtin_entry, language_row};
+ghost use Rattle.case_table.specs.Entries.{entries, builtin_entry};
 
-use crate::builtin::Builtin;
 use crate::table::{CaseTable, Code, Row};
 use expr_tree::Attrs;
+use semantics::Builtin;
 
 /// The number of the names of the built-in table.
 pub const BUILTINS: usize = 166;
@@ -225,11 +225,9 @@ pub fn builtins() -> CaseTable
     CaseTable { rows: &ROWS }
 }
 
-impl Builtin {
-    /// Its name in the language.
-    pub fn name(self) -> &'static str
-        ensures { result.now ≡ row_text (language_row self) }
-    {
-        each_builtin!(builtin_names self)
-    }
+/// The name of a row in the language.
+pub fn name_of(row: Builtin) -> &'static str
+    ensures { result.now ≡ row_text row }
+{
+    each_builtin!(builtin_names row)
 }

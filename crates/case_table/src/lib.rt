@@ -1,7 +1,6 @@
 //! The tables of the names that the language has from the start: the built-in table, and the operators and brackets.
 #![tactic(auto)]
 
-mod builtin;
 mod builtin_table;
 mod laws;
 mod operator_table;
@@ -10,9 +9,9 @@ mod table;
 #[cfg(test)]
 mod tests;
 
-pub use builtin::Builtin;
-pub use builtin_table::{BUILTINS, builtins};
+pub use builtin_table::{BUILTINS, builtins, name_of};
 pub use laws::{built_in_names_differ, operators_differ};
 pub use operator_table::{OPERATORS, operators};
+pub use semantics::Builtin;
 pub use sign::Sign;
 pub use table::{CaseTable, Code, Row};

@@ -2,9 +2,9 @@ ghost use Rattle.std.specs.Prelude.{map};
 ghost use Rattle.case_table.specs.Entries.{entries};
 ghost use Rattle.case_table.specs.Place.{IsPlace};
 
-use crate::builtin::Builtin;
 use crate::sign::Sign;
 use expr_tree::Attrs;
+use semantics::Builtin;
 
 /// What a name of a table names.
 #[derive(Clone, Copy, Debug, PartialEq, Eq)]

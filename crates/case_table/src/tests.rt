@@ -1,4 +1,4 @@
-use crate::{BUILTINS, Builtin, OPERATORS, builtins, operators};
+use crate::{BUILTINS, Builtin, OPERATORS, builtins, name_of, operators};
 use std::test::Fail;
 
 #[test]
@@ -9,6 +9,6 @@ fn names_have_places(rt: HostRuntime) -> Result<(), Fail> {
     assert_eq!(rt; operators().find("==="), Some(0));
     assert_eq!(rt; builtins().rows.len(), BUILTINS);
     assert_eq!(rt; operators().rows.len(), OPERATORS);
-    assert_eq!(rt; Builtin::Aborted.name(), "$Aborted");
+    assert_eq!(rt; name_of(Builtin::Aborted), "$Aborted");
     Ok(())
 }

@@ -3,7 +3,7 @@ use Rattle.std.proofs.Common.{◌≡◌, refl, ap, subst, ℕ, zero, suc, Bool, 
 use Rattle.std.specs.Prelude.{◌&&◌}
 use Rattle.expr_tree.specs.declared.sym.Sym.{Sym}
 use Rattle.expr_tree.specs.Tree.{Tree, normal, Trees}
-use Rattle.semantics.specs.Builtin.{Builtin}
+use Rattle.semantics.specs.declared.builtin.Builtin.{Builtin}
 use Rattle.semantics.specs.Names.{Names, is_name}
 use Rattle.expr_tree.specs.Substitution.{Binding}
 use Rattle.semantics.specs.Match.{Guard, Test, Cond, Found, nothing_found, Matching, Taken, runs, choices, choices_up_to, ways, is_single, first_is_single, second_is_single, wrapped, same_run, bind, guarded, when, have_head, is_one, is_some_run, Kind, blank, sequence, null_sequence, pattern, test, condition, alternatives, hold, verbatim, other, kind, Matcher, Element, literal, match_items, match_normal, match_any, match_named, construct, is_construct, how_of, matcher, matchers, matches, asked, heads, heads_in, guard_expression}

@@ -3,7 +3,7 @@ use Rattle.std.proofs.Common.{◌≡◌, refl, ap, subst, Bool, not, List, [], �
 use Rattle.std.specs.Prelude.{◌&&◌, ◌||◌}
 use Rattle.expr_tree.specs.declared.sym.Sym.{Sym}
 use Rattle.expr_tree.specs.Tree.{Tree}
-use Rattle.semantics.specs.Builtin.{Builtin}
+use Rattle.semantics.specs.declared.builtin.Builtin.{Builtin}
 use Rattle.semantics.specs.Names.{Names, is_name, role_of}
 use Rattle.semantics.specs.Program.{Prog, Done, Seen}
 use Rattle.semantics.specs.Definitions.{Attributes, Share, Variable, Function, has}

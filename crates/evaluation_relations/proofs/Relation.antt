@@ -6,7 +6,7 @@ use Rattle.std.specs.Ordering.{is_le}
 use Rattle.expr_tree.specs.declared.sym.Sym.{Sym}
 use Rattle.expr_tree.specs.Tree.{Tree, integer, string, symbol, normal, Trees, nil, cons, elements, trees, call, size, sizes, depth, depths, count}
 use Rattle.expr_tree.specs.Order.{tree_cmp, trees_cmp, symbol_cmp, same, same_symbol}
-use Rattle.semantics.specs.Builtin.{Builtin}
+use Rattle.semantics.specs.declared.builtin.Builtin.{Builtin}
 use Rattle.semantics.specs.Names.{Names, known, name, is_known, is_name, is_call, items_of, head_of, make, role_of}
 use Rattle.semantics.specs.Steps.{splice, unwrapped, strip, has_wrapper, is_call_of, flatten_item, flatten_items, flatten, put_in, ordered, all_of_length, first_length, first_or, rest_of, heads_of, tails_of, threads, thread}
 use Rattle.expr_tree.specs.Same.{trees_eq}

@@ -8,7 +8,7 @@ use borrow.Author.Tests.{eqb-false}
 use Rattle.std.specs.Cmp.{ranked, nat_cmp_is}
 use Rattle.expr_tree.specs.declared.sym.Sym.{Sym}
 use Rattle.expr_tree.specs.Order.{symbol_cmp}
-use Rattle.semantics.specs.Builtin.{Builtin}
+use Rattle.semantics.specs.declared.builtin.Builtin.{Builtin}
 use Rattle.semantics.specs.Names.{Names}
 use Rattle.evaluation_relations.specs.Order.{ShiftKeepsOrder}
 use Rattle.evaluation_relations.proofs.Relate.{branch}

@@ -14,17 +14,17 @@ in_range (negsuc n) = ltb n (2 ^ 127)
 abbrev pub Assembles : Tree → Result Tree Built → Type 0
 Assembles t (Ok e) = (e ≡ t) × (size t ≤ 4000000) × (depth t ≤ 512)
 Assembles t (Err TooLarge) = 4000000 < size t
-Assembles t (Err TooDeep) = (size t ≤ 4000000) × (512 < depth t)
+Assembles t (Err (TooDeep nodes)) = (nodes ≡ size t) × (size t ≤ 4000000) × (512 < depth t)
 Assembles t (Err NoMemory) = Unit {0}
 
 abbrev pub Makes : Tree → Result Tree Built → Type 0
 Makes t (Ok e) = e ≡ t
 Makes t (Err TooLarge) = 4000000 < size t
-Makes t (Err TooDeep) = 512 < depth t
+Makes t (Err (TooDeep nodes)) = 512 < depth t
 Makes t (Err NoMemory) = Unit {0}
 
 abbrev pub MakesAll : Trees → Result (List Tree) Built → Type 0
 MakesAll ts (Ok es) = es ≡ elements ts
 MakesAll ts (Err TooLarge) = 4000000 < sizes ts
-MakesAll ts (Err TooDeep) = 512 < depths ts
+MakesAll ts (Err (TooDeep nodes)) = 512 < depths ts
 MakesAll ts (Err NoMemory) = Unit {0}

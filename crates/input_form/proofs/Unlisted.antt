@@ -7,7 +7,8 @@ use Rattle.std.specs.Str.{bytes_eq}
 use Rattle.std.proofs.lemmas.Map.Text.{is_eq-slice_cmp}
 use Rattle.std.proofs.lemmas.Slice.Eq.{bytes_eq-Decides}
 use Rattle.expr_tree.specs.Order.{text_cmp}
-use Rattle.semantics.specs.Builtin.{Builtin, rows}
+use Rattle.semantics.specs.declared.builtin.Builtin.{Builtin}
+use Rattle.semantics.specs.Builtin.{rows}
 use Rattle.semantics.specs.Texts.{row_text, row_with}
 use Rattle.syntax.specs.Shapes.{Shape, shape_of, shape_by}
 use Rattle.syntax.specs.Shapes as s

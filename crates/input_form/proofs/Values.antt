@@ -5,7 +5,8 @@ use Rattle.expr_tree.specs.declared.sym.Sym.{Sym}
 use Rattle.expr_tree.specs.Tree.{Tree, Trees, symbol, normal, nil, cons, trees}
 use Rattle.script_text.specs.Full.{full}
 use Rattle.script_text.specs.Spelling.{by_texts}
-use Rattle.semantics.specs.Builtin.{Builtin, rows}
+use Rattle.semantics.specs.declared.builtin.Builtin.{Builtin}
+use Rattle.semantics.specs.Builtin.{rows}
 use Rattle.semantics.specs.Names.{role_of}
 use Rattle.semantics.specs.Texts.{names_of, row_with}
 use Rattle.syntax.specs.Input.{input}

@@ -9,7 +9,8 @@ use Rattle.expr_tree.specs.declared.sym.Sym.{Sym}
 use Rattle.expr_tree.specs.Tree.{Tree, Trees, nil, cons}
 use Rattle.script_text.specs.Full.{full}
 use Rattle.script_text.specs.Spelling.{by_texts}
-use Rattle.semantics.specs.Builtin.{Builtin, rows}
+use Rattle.semantics.specs.declared.builtin.Builtin.{Builtin}
+use Rattle.semantics.specs.Builtin.{rows}
 use Rattle.semantics.specs.Names.{role_of}
 use Rattle.semantics.specs.Texts.{row_with, names_of}
 use Rattle.syntax.specs.Input.{input}

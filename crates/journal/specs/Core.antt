@@ -8,7 +8,7 @@ use Rattle.std.specs.Prelude.{ℕ, zero, suc, pos, List, [], ◌∷◌, ◌++◌
 use Rattle.expr_tree.specs.declared.sym.Sym.{Sym}
 use Rattle.expr_tree.specs.Tree.{Tree, integer}
 use Rattle.expr_tree.specs.Order.{same}
-use Rattle.semantics.specs.Builtin.{Builtin}
+use Rattle.semantics.specs.declared.builtin.Builtin.{Builtin}
 use Rattle.semantics.specs.Names.{Names, name, is_name, make}
 use Rattle.expr_tree.specs.Substitution.{among}
 use Rattle.semantics.specs.Definitions.{Definitions, empty, is_empty}

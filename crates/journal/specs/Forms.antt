@@ -6,7 +6,7 @@ use Rattle.std.specs.Ordering.{is_eq, int_eq}
 use Rattle.expr_tree.specs.declared.sym.Sym.{Sym}
 use Rattle.expr_tree.specs.Tree.{Tree, integer, string, symbol, normal, Trees, nil, cons, elements, call, size, depth}
 use Rattle.expr_tree.specs.Order.{text_cmp}
-use Rattle.semantics.specs.Builtin.{Builtin}
+use Rattle.semantics.specs.declared.builtin.Builtin.{Builtin}
 use Rattle.semantics.specs.Names.{Names, name, is_call, items_of, make, role_of}
 use Rattle.expr_tree.specs.Substitution.{Binding, among}
 use Rattle.semantics.specs.InPlace.{put_in_place}

@@ -6,7 +6,8 @@ use Rattle.std.specs.declared.cmp.Ordering.TheVariants.{Less, Equal, Greater}
 use Rattle.expr_tree.proofs.Same.{symbol_eq-Decides}
 use Rattle.expr_tree.specs.declared.sym.Sym.{Sym}
 use Rattle.expr_tree.specs.Order.{symbol_cmp, same_symbol}
-use Rattle.semantics.specs.Builtin.{Builtin, row_number, rows}
+use Rattle.semantics.specs.declared.builtin.Builtin.{Builtin}
+use Rattle.semantics.specs.Builtin.{row_number, rows}
 use Rattle.semantics.specs.Names.{Names}
 use Rattle.semantics.specs.Definitions.{Definition, Definitions, Attributes, same_attributes, first_definition, is_first, is_empty, look_up, drop_entry, add_entry, stored, put, Shared, shared_as}
 use Rattle.semantics.specs.Program.{Seen}

@@ -7,7 +7,7 @@
 --     left_side             the left side of an assignment after all of these steps
 use Rattle.std.specs.Prelude.{List, [], ◌∷◌, ◌++◌, Bool, true, false, ◌&&◌, ◌||◌, not, Option, Some, None}
 use Rattle.expr_tree.specs.Tree.{Tree, symbol, normal, elements, call}
-use Rattle.semantics.specs.Builtin.{Builtin}
+use Rattle.semantics.specs.declared.builtin.Builtin.{Builtin}
 use Rattle.semantics.specs.Names.{Names, is_call, items_of, make}
 use Rattle.semantics.specs.Steps.{splice, flatten, thread, ordered}
 use Rattle.semantics.specs.Definitions.{Attributes, has}

@@ -6,7 +6,7 @@
 use Rattle.std.specs.Prelude.{List, [], ◌∷◌, ◌++◌, Bool, true, false, ◌&&◌, ◌||◌, not, Option, Some, None}
 use Rattle.expr_tree.specs.declared.sym.Sym.{Sym}
 use Rattle.expr_tree.specs.Tree.{Tree, integer, string, symbol, normal, Trees, nil, cons}
-use Rattle.semantics.specs.Builtin.{Builtin}
+use Rattle.semantics.specs.declared.builtin.Builtin.{Builtin}
 use Rattle.semantics.specs.Names.{Names, is_name, is_call, items_of}
 use Rattle.expr_tree.specs.Order.{same_symbol}
 use Rattle.expr_tree.specs.Shapes.{symbol_of}

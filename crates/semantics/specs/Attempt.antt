@@ -7,7 +7,7 @@ use Rattle.std.specs.Prelude.{List, [], ◌∷◌, ◌++◌, map, true, false}
 use Rattle.expr_tree.specs.declared.sym.Sym.{Sym}
 use Rattle.expr_tree.specs.Tree.{Tree}
 use Rattle.expr_tree.specs.Order.{same_symbol}
-use Rattle.semantics.specs.Builtin.{Builtin}
+use Rattle.semantics.specs.declared.builtin.Builtin.{Builtin}
 use Rattle.semantics.specs.Names.{Names, is_name}
 use Rattle.expr_tree.specs.Substitution.{Binding}
 use Rattle.semantics.specs.InPlace.{put_in_place}

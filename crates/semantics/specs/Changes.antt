@@ -9,7 +9,7 @@ use Rattle.std.specs.Prelude.{ℤ, negsuc, List, [], ◌∷◌, map, Bool, true,
 use Rattle.expr_tree.specs.declared.sym.Sym.{Sym}
 use Rattle.expr_tree.specs.Tree.{Tree, integer, symbol}
 use Rattle.expr_tree.specs.Order.{same_symbol}
-use Rattle.semantics.specs.Builtin.{Builtin}
+use Rattle.semantics.specs.declared.builtin.Builtin.{Builtin}
 use Rattle.semantics.specs.Names.{Names, name, is_call, items_of, make, role_of}
 use Rattle.expr_tree.specs.Shapes.{symbol_of}
 use Rattle.semantics.specs.Steps.{ordered}

@@ -8,7 +8,8 @@ use Rattle.std.specs.declared.cmp.Ordering.TheVariants.{Less}
 use Rattle.expr_tree.specs.declared.sym.Sym.{Sym}
 use Rattle.expr_tree.specs.Tree.{Tree}
 use Rattle.expr_tree.specs.Order.{symbol_cmp, same_symbol}
-use Rattle.semantics.specs.Builtin.{Builtin, row_number, first_attributes}
+use Rattle.semantics.specs.declared.builtin.Builtin.{Builtin}
+use Rattle.semantics.specs.Builtin.{row_number, first_attributes}
 use Rattle.semantics.specs.Names.{Names, role_of}
 use Rattle.semantics.specs.Rule.{Rule}
 

@@ -7,7 +7,7 @@ use Rattle.expr_tree.specs.Substitution as substitution
 use Rattle.expr_tree.specs.Substitution.{Binding}
 use Rattle.expr_tree.specs.declared.binders.Binders.{Binders}
 use Rattle.expr_tree.specs.Tree.{Tree, integer, string, symbol, normal, Trees, nil, cons}
-use Rattle.semantics.specs.Builtin.{Builtin}
+use Rattle.semantics.specs.declared.builtin.Builtin.{Builtin}
 use Rattle.semantics.specs.Names.{Names, known, is_call, is_name, items_of}
 
 abbrev pub binders : Names → Binders

@@ -8,7 +8,7 @@ use Rattle.std.specs.Prelude.{ℕ, zero, suc, ◌+◌, ℤ, pos, negsuc, ◌+ℤ
 use Rattle.std.specs.Ordering.{int_eq, is_gt}
 use Rattle.expr_tree.specs.Tree.{Tree, integer, string, symbol, normal, Trees, nil, cons, elements, call}
 use Rattle.expr_tree.specs.Order.{same, tree_cmp}
-use Rattle.semantics.specs.Builtin.{Builtin}
+use Rattle.semantics.specs.declared.builtin.Builtin.{Builtin}
 use Rattle.semantics.specs.Names.{Names, is_name, is_call, items_of, make}
 use Rattle.semantics.specs.Steps.{ordered}
 use Rattle.semantics.specs.Worked.{Worked, Stays, Gives}

@@ -11,7 +11,7 @@
 use Rattle.std.specs.Prelude.{pos, List, [], ◌∷◌, true, false, ◌&&◌, not, Option, Some, None}
 use Rattle.expr_tree.specs.declared.sym.Sym.{Sym}
 use Rattle.expr_tree.specs.Tree.{Tree, integer, string, symbol, normal, elements, call}
-use Rattle.semantics.specs.Builtin.{Builtin}
+use Rattle.semantics.specs.declared.builtin.Builtin.{Builtin}
 use Rattle.semantics.specs.Names.{Names, is_known, is_name, make, role_of}
 use Rattle.expr_tree.specs.Shapes.{symbol_of}
 use Rattle.semantics.specs.Steps.{strip, has_wrapper}

@@ -7,7 +7,7 @@ use Rattle.std.specs.Prelude.{ℕ, zero, suc, ◌+◌, List, [], ◌∷◌, Bool
 use Rattle.expr_tree.specs.declared.sym.Sym.{Sym}
 use Rattle.expr_tree.specs.Tree.{Tree, size, depth}
 use Rattle.expr_tree.specs.Order.{same}
-use Rattle.semantics.specs.Builtin.{Builtin}
+use Rattle.semantics.specs.declared.builtin.Builtin.{Builtin}
 use Rattle.semantics.specs.Names.{Names, name}
 use Rattle.expr_tree.specs.Substitution.{among}
 use Rattle.semantics.specs.Definitions.{Definition, Definitions, definition_of, stored, shared_as, put}

@@ -9,7 +9,7 @@
 use Rattle.std.specs.Prelude.{ℕ, List, [], ◌∷◌, ◌++◌, length, leb, Bool, true, false, ◌&&◌, ◌||◌, not, Option, Some, None, is_some}
 use Rattle.expr_tree.specs.declared.sym.Sym.{Sym}
 use Rattle.expr_tree.specs.Tree.{Tree, integer, string, symbol, normal, Trees, nil, cons, call}
-use Rattle.semantics.specs.Builtin.{Builtin}
+use Rattle.semantics.specs.declared.builtin.Builtin.{Builtin}
 use Rattle.semantics.specs.Names.{Names, is_name, is_call, items_of, make}
 use Rattle.semantics.specs.Definitions.{Share, Variable, Function, has}
 use Rattle.semantics.specs.Program.{Prog, Done, Ask, Section, Open, Look, Quits, Outer, Moded, Shown, Cell, Item, Service, Access, Print, Outside}

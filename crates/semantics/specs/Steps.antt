@@ -5,7 +5,7 @@ use Rattle.expr_tree.specs.declared.sym.Sym.{Sym}
 use Rattle.expr_tree.specs.Tree.{Tree, symbol, normal, Trees, nil, cons, trees, call}
 use Rattle.expr_tree.specs.Order.{tree_cmp, same_symbol}
 use Rattle.std.specs.Ordering.{is_le}
-use Rattle.semantics.specs.Builtin.{Builtin}
+use Rattle.semantics.specs.declared.builtin.Builtin.{Builtin}
 use Rattle.semantics.specs.Names.{Names, is_call, items_of, make}
 
 -- splicing: an item Sequence[..] gives way to its items

@@ -2,7 +2,7 @@
 --     string_join, string_length, characters, string_reverse      the four rows
 use Rattle.std.specs.Prelude.{ℕ, pos, List, [], ◌∷◌, ◌++◌, map, length, reverse, Option, Some, None, chars, encode_utf8, encode_utf8_all}
 use Rattle.expr_tree.specs.Tree.{Tree, integer, string}
-use Rattle.semantics.specs.Builtin.{Builtin}
+use Rattle.semantics.specs.declared.builtin.Builtin.{Builtin}
 use Rattle.semantics.specs.Names.{Names, make}
 use Rattle.semantics.specs.Worked.{Worked, Stays, Gives}
 

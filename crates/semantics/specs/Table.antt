@@ -3,7 +3,7 @@
 --     row                   each row as a program; `stay` is the program of an expression whose shape has no equation
 use Rattle.std.specs.Prelude.{pos, negsuc, int_lt, int_le, List, [], ◌∷◌, true, false}
 use Rattle.expr_tree.specs.Tree.{Tree, normal, elements}
-use Rattle.semantics.specs.Builtin.{Builtin}
+use Rattle.semantics.specs.declared.builtin.Builtin.{Builtin}
 use Rattle.semantics.specs.Names.{Names, is_name, is_call, make, truth}
 use Rattle.semantics.specs.Worked.{Worked, Stays, Gives, TooWide}
 use Rattle.semantics.specs.Numbers.{plus, product, power, quotient, modulo, parity, minus, subtract, divide, absolute, sign, gcd, factorial, extreme}

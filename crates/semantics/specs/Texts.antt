@@ -5,7 +5,8 @@ use Rattle.std.specs.Prelude.{ℕ, zero, suc, List, [], ◌∷◌, true, false, 
 use Rattle.std.specs.Ordering.{is_eq}
 use Rattle.expr_tree.specs.Order.{text_cmp}
 use Rattle.script_text.specs.Spelling.{place_in}
-use Rattle.semantics.specs.Builtin.{Builtin, rows}
+use Rattle.semantics.specs.declared.builtin.Builtin.{Builtin}
+use Rattle.semantics.specs.Builtin.{rows}
 use Rattle.semantics.specs.Names.{Names}
 
 abbrev pub row_text : Builtin → List ℕ

@@ -41,11 +41,12 @@ pub fn subst_with(
             let _within = (made.size(), made.depth());
             Ok(made)
         }
-        Err(Built::TooDeep) => {
-            if count::nodes_after(alloc, binders, bindings, &hidden, e)? > MAX_SIZE {
+        Err(Built::TooDeep(_)) => {
+            let nodes = count::nodes_after(alloc, binders, bindings, &hidden, e)?;
+            if nodes > MAX_SIZE {
                 Err(Built::TooLarge)
             } else {
-                Err(Built::TooDeep)
+                Err(Built::TooDeep(nodes))
             }
         }
         Err(fault) => Err(fault),

@@ -3,7 +3,7 @@
 use Rattle.std.proofs.Common.{◌≡◌, ℕ, zero, suc, ◌+◌, ◌<◌, ◌≤◌, min, Bool, true, false, nat_lt, nat_le, cond, if◌then◌else◌, List, [], ◌∷◌, ◌++◌, length, Option, Some, None, option_and_then, refl, sym, ap, ◌∙◌, subst, lt-ltb, le-leb, le-ltb, arith, le_trans, append_assoc, append-nil, leb-true, ltb-true, map}
 use Rattle.std.specs.Prelude.{pos}
 use Rattle.expr_tree.specs.Tree.{integer}
-use Rattle.semantics.specs.Builtin.{Builtin}
+use Rattle.semantics.specs.declared.builtin.Builtin.{Builtin}
 use Rattle.syntax.specs.Signs.{Sign}
 use Rattle.syntax.specs.Operators.{Operator, Prefix, Postfix, infix_row, level_of, right_of, leads_at, trails_at, tags_of}
 use Rattle.syntax.specs.Terminals.{Phrase, NumberToken, Word, Value, Mark, Terminal, Bracket, Opening, Start, Next, start_of, next_of, word_start, word_next, on_line, sign_next}

@@ -1,6 +1,6 @@
 -- Facts on the tables of operators and signs.
 use Rattle.std.proofs.Common.{◌≡◌, ◌<◌, ◌≤◌, Bool, true, false, Some, refl, lit<, lit≤}
-use Rattle.semantics.specs.Builtin.{Builtin}
+use Rattle.semantics.specs.declared.builtin.Builtin.{Builtin}
 use Rattle.syntax.specs.Signs.{Sign}
 use Rattle.syntax.specs.Operators.{Operator, Prefix, Postfix, infix_row, level_of, right_of, leads_at, trails_at, tags_of}
 use Rattle.syntax.specs.Terminals.{Word, Terminal, Start, Next, sign_start, sign_next, word_start, word_next, on_line, start_of, next_of}

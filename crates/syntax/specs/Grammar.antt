@@ -5,7 +5,7 @@
 -- The room says how much deeper the nesting may still get. A terminal is nested in the brackets, prefix operators and right
 -- operands that it stands in; a bracket does not stand in itself.
 use Rattle.std.specs.Prelude.{◌≡◌, ℕ, suc, ◌<◌, ◌≤◌, min, true, List, [], ◌∷◌, ◌++◌, Some}
-use Rattle.semantics.specs.Builtin.{Builtin}
+use Rattle.semantics.specs.declared.builtin.Builtin.{Builtin}
 use Rattle.syntax.specs.Operators.{Operator, Prefix, Postfix, level_of, right_of, leads_at, trails_at, tags_of}
 use Rattle.syntax.specs.Terminals.{Phrase, Terminal, Bracket, Opening, Start, Next, start_of, next_of}
 use Rattle.syntax.specs.Phrases.{Constructs}

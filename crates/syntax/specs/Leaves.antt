@@ -4,7 +4,7 @@
 --     Lexeme, lexemes      a token with its text, and whether it begins a line; those of a cell
 use Rattle.std.specs.Prelude.{ℕ, pos, ◌+◌, ◌-◌, ◌==◌, Bool, true, false, cond, List, [], ◌∷◌, take, drop, codes}
 use Rattle.expr_tree.specs.Tree.{Tree, integer, string, symbol}
-use Rattle.semantics.specs.Builtin.{Builtin}
+use Rattle.semantics.specs.declared.builtin.Builtin.{Builtin}
 use Rattle.semantics.specs.Names.{Names, make}
 use Rattle.script_text.specs.Bytes.{in_name, run, number_after, begins_with}
 use Rattle.script_text.specs.Spelling.{spelled}

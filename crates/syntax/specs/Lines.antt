@@ -6,7 +6,7 @@
 use Rattle.std.specs.Prelude.{ℕ, true, false, List, [], ◌∷◌, ◌++◌, codes, Option, Some}
 use Rattle.std.specs.Fmt.{decimal}
 use Rattle.expr_tree.specs.Tree.{Tree, Trees, symbol, normal, nil, cons}
-use Rattle.semantics.specs.Builtin.{Builtin}
+use Rattle.semantics.specs.declared.builtin.Builtin.{Builtin}
 use Rattle.semantics.specs.Names.{Names, role_of, is_name}
 use Rattle.script_text.specs.Spelling.{Spelling}
 use Rattle.script_text.specs.Full.{full}

@@ -5,7 +5,7 @@
 --     Postfix, trails_at   a postfix operator; its level
 -- Besides there are h[..] and h[[..]] at level 25, t /: l = r at level 3, and the postfix semicolon.
 use Rattle.std.specs.Prelude.{ℕ, Option, Some, None}
-use Rattle.semantics.specs.Builtin.{Builtin}
+use Rattle.semantics.specs.declared.builtin.Builtin.{Builtin}
 
 pub data Operator : Type 0 where
   PatternTest Calls Map Apply Power Divide Times Plus Minus : Operator

@@ -5,7 +5,8 @@
 --     accepts              whether an infix operator takes the phrase as its left operand
 use Rattle.std.specs.Prelude.{ℕ, zero, suc, ℤ, pos, negsuc, Bool, true, false, not, ◌||◌, ◌&&◌, ◌==◌, cond, List, [], ◌∷◌, ◌++◌}
 use Rattle.expr_tree.specs.Tree.{Tree, integer, normal, elements, call}
-use Rattle.semantics.specs.Builtin.{Builtin, row_number}
+use Rattle.semantics.specs.declared.builtin.Builtin.{Builtin}
+use Rattle.semantics.specs.Builtin.{row_number}
 use Rattle.semantics.specs.Names.{Names, make, name}
 use Rattle.syntax.specs.Operators.{Operator, Prefix, Postfix, Gives, gives_of}
 use Rattle.syntax.specs.Terminals.{Phrase, PhraseKind, Closed, NameToken, NumberToken, Open}

@@ -6,7 +6,7 @@
 --     IsOffset             the syntax offset of a cell that has no reading
 use Rattle.std.specs.Prelude.{◌≡◌, ℕ, suc, ◌<◌, ◌≤◌, List, [], ◌∷◌, ◌++◌, length, take, drop, Option, Some, None}
 use Rattle.expr_tree.specs.Tree.{Tree}
-use Rattle.semantics.specs.Builtin.{Builtin}
+use Rattle.semantics.specs.declared.builtin.Builtin.{Builtin}
 use Rattle.semantics.specs.Names.{Names, name}
 use Rattle.syntax.specs.Tokens.{Token, LexFault, lex, place_of_fault}
 use Rattle.syntax.specs.Leaves.{Lexeme, lexemes}

@@ -8,7 +8,7 @@
 -- A greater level binds tighter.
 use Rattle.std.specs.Prelude.{ℕ, List as Many, [], codes, Option as Maybe, Some, None}
 use Rattle.expr_tree.specs.declared.sym.Sym.{Sym}
-use Rattle.semantics.specs.Builtin.{Builtin}
+use Rattle.semantics.specs.declared.builtin.Builtin.{Builtin}
 use Rattle.semantics.specs.Names.{Names, role_of}
 
 pub data Pair : Type 0 where

@@ -6,7 +6,7 @@
 --     terminal                 the terminal of a lexeme
 use Rattle.std.specs.Prelude.{ℕ, Bool, cond, List, map}
 use Rattle.expr_tree.specs.Tree.{Tree}
-use Rattle.semantics.specs.Builtin.{Builtin}
+use Rattle.semantics.specs.declared.builtin.Builtin.{Builtin}
 use Rattle.semantics.specs.Names.{Names}
 use Rattle.syntax.specs.Signs.{Sign, sign_of}
 use Rattle.syntax.specs.Tokens.{Kind}

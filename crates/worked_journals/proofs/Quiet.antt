@@ -1,7 +1,7 @@
 -- Quiet applications.
 use Rattle.std.proofs.Common.{◌≡◌, refl, false, [], ◌∷◌, arith}
 use Rattle.expr_tree.specs.Tree.{Tree, call}
-use Rattle.semantics.specs.Builtin.{Builtin}
+use Rattle.semantics.specs.declared.builtin.Builtin.{Builtin}
 use Rattle.semantics.specs.Definitions.{Definitions, empty}
 use Rattle.semantics.specs.Program.{Mode}
 use Rattle.semantics.specs.Play.{End}

@@ -1,7 +1,7 @@
 -- Losses: an item that waits again, a kernel that quits, one that was not started, a pinned item, and recovery by abandoning.
 use Rattle.std.proofs.Common.{◌≡◌, refl, true, false, List, [], ◌∷◌, Some}
 use Rattle.expr_tree.specs.Tree.{Tree, call}
-use Rattle.semantics.specs.Builtin.{Builtin}
+use Rattle.semantics.specs.declared.builtin.Builtin.{Builtin}
 use Rattle.semantics.specs.Names.{name}
 use Rattle.semantics.specs.Table.{row, worked}
 use Rattle.journal.specs.Entry.{Entry, Event, Wait, Loss}

@@ -3,7 +3,8 @@ use Rattle.std.proofs.Common.{ℕ, zero, suc, ◌+◌, List, [], ◌∷◌, Opti
 use Rattle.std.specs.Prelude.{pos}
 use Rattle.expr_tree.specs.declared.sym.Sym.{Sym}
 use Rattle.expr_tree.specs.Tree.{Tree, integer, string, symbol}
-use Rattle.semantics.specs.Builtin.{Builtin, row_number, rows}
+use Rattle.semantics.specs.declared.builtin.Builtin.{Builtin}
+use Rattle.semantics.specs.Builtin.{row_number, rows}
 use Rattle.semantics.specs.Names.{Names, make, name}
 use Rattle.expr_tree.specs.declared.limits.Limits.{Limits}
 use Rattle.journal.specs.Entry.{Entry, Event, Wait}

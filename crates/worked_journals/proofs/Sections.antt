@@ -2,7 +2,7 @@
 use Rattle.std.proofs.Common.{◌≡◌, refl, ℕ, true, false, List, [], ◌∷◌, ◌++◌, Some}
 use Rattle.std.specs.Prelude.{codes}
 use Rattle.expr_tree.specs.Tree.{Tree, string, symbol}
-use Rattle.semantics.specs.Builtin.{Builtin}
+use Rattle.semantics.specs.declared.builtin.Builtin.{Builtin}
 use Rattle.semantics.specs.Names.{name}
 use Rattle.semantics.specs.Table.{row, worked}
 use Rattle.journal.specs.Entry.{Entry, Event, Wait}

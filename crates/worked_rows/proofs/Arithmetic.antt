@@ -1,7 +1,7 @@
 -- Sums, products, powers and the other rows of numbers.
 use Rattle.std.proofs.Common.{◌≡◌, refl, [], ◌∷◌}
 use Rattle.expr_tree.specs.declared.limits.Stop.{Stop}
-use Rattle.semantics.specs.Builtin.{Builtin}
+use Rattle.semantics.specs.declared.builtin.Builtin.{Builtin}
 use Rattle.semantics.specs.Eval.{eval}
 use Rattle.semantics.specs.Table.{row, worked}
 use Rattle.semantics.specs.Match.{matches}

@@ -3,7 +3,7 @@ use Rattle.std.proofs.Common.{◌≡◌, refl, Bool, true, false, [], ◌∷◌}
 use Rattle.expr_tree.specs.Substitution.{Binding}
 use Rattle.expr_tree.specs.declared.sym.Sym.{Sym}
 use Rattle.expr_tree.specs.Tree.{call}
-use Rattle.semantics.specs.Builtin.{Builtin}
+use Rattle.semantics.specs.declared.builtin.Builtin.{Builtin}
 use Rattle.semantics.specs.Match.{Found, Matching, Test, Cond, matches}
 use Rattle.worked_rows.specs.Sample.{a', apply, b', blank, blanks, condition, f', g', int, items, list, names, numbers, o', of, some_blanks, sym, x', y'}
 

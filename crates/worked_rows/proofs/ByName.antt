@@ -2,7 +2,7 @@
 use Rattle.std.proofs.Common.{◌≡◌, refl, ℕ, List, [], ◌∷◌}
 use Rattle.std.specs.Prelude.{pos, codes}
 use Rattle.expr_tree.specs.Tree.{integer, symbol}
-use Rattle.semantics.specs.Builtin.{Builtin}
+use Rattle.semantics.specs.declared.builtin.Builtin.{Builtin}
 use Rattle.semantics.specs.Names.{Names, make}
 use Rattle.semantics.specs.Definitions.{empty}
 use Rattle.semantics.specs.Program.{Cell}

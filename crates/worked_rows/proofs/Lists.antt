@@ -4,7 +4,7 @@ use Rattle.std.specs.Prelude.{codes}
 use Rattle.std.specs.Str.{chars}
 use Rattle.std.specs.Char.{encode_utf8}
 use Rattle.expr_tree.specs.Tree.{call, string}
-use Rattle.semantics.specs.Builtin.{Builtin}
+use Rattle.semantics.specs.declared.builtin.Builtin.{Builtin}
 use Rattle.semantics.specs.Eval.{eval}
 use Rattle.semantics.specs.Table.{row, worked}
 use Rattle.worked_rows.specs.Sample.{a', apply, b', c', cells, f', g', int, list, minus, numbers, of, plus, symbol_of_row, value, x'}

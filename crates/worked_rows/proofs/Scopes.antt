@@ -2,7 +2,7 @@
 use Rattle.std.proofs.Common.{◌≡◌, refl, [], ◌∷◌}
 use Rattle.expr_tree.specs.Tree.{call}
 use Rattle.expr_tree.specs.declared.limits.Stop.{Stop}
-use Rattle.semantics.specs.Builtin.{Builtin}
+use Rattle.semantics.specs.declared.builtin.Builtin.{Builtin}
 use Rattle.semantics.specs.Eval.{eval}
 use Rattle.semantics.specs.Table.{row, worked}
 use Rattle.worked_rows.specs.Sample.{a', apply, b', c', cells, equals, f', int, list, made, null, numbers, of, plus, stopped, symbol_of_row, value, x', y'}

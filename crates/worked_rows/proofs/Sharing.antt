@@ -3,7 +3,7 @@ use Rattle.std.proofs.Common.{◌≡◌, refl, true, false, List, [], ◌∷◌}
 use Rattle.std.specs.Prelude.{codes}
 use Rattle.expr_tree.specs.declared.limits.Stop.{Stop}
 use Rattle.expr_tree.specs.Tree.{Tree, string}
-use Rattle.semantics.specs.Builtin.{Builtin}
+use Rattle.semantics.specs.declared.builtin.Builtin.{Builtin}
 use Rattle.semantics.specs.Definitions.{Definitions, Variable, Function, empty}
 use Rattle.semantics.specs.Program.{Service, Access, Count, Print, Outside, Sends, Enter, Leave}
 use Rattle.semantics.specs.Play.{Setting, Reply, Replied, Halted, Quit}

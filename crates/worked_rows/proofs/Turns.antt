@@ -1,7 +1,7 @@
 -- Control and turns of loops.
 use Rattle.std.proofs.Common.{◌≡◌, refl, [], ◌∷◌}
 use Rattle.expr_tree.specs.Tree.{call}
-use Rattle.semantics.specs.Builtin.{Builtin}
+use Rattle.semantics.specs.declared.builtin.Builtin.{Builtin}
 use Rattle.semantics.specs.Eval.{eval}
 use Rattle.semantics.specs.Table.{row, worked}
 use Rattle.semantics.specs.Match.{matches}

@@ -8,7 +8,8 @@ use Rattle.expr_tree.specs.declared.sym.Sym.{Sym}
 use Rattle.expr_tree.specs.declared.limits.Limits.{Limits}
 use Rattle.expr_tree.specs.declared.limits.Stop.{Stop}
 use Rattle.expr_tree.specs.Tree.{Tree, integer, symbol, call}
-use Rattle.semantics.specs.Builtin.{Builtin, row_number, rows}
+use Rattle.semantics.specs.declared.builtin.Builtin.{Builtin}
+use Rattle.semantics.specs.Builtin.{row_number, rows}
 use Rattle.semantics.specs.Names.{Names, name, make}
 use Rattle.semantics.specs.Definitions.{Definitions, empty}
 use Rattle.semantics.specs.Program.{Mode, Cell, Item}

@@ -2,7 +2,8 @@
 use Rattle.std.proofs.Common.{◌≡◌, refl, ◌+◌, Bool, true, false, List, [], ◌∷◌}
 use Rattle.std.specs.Prelude.{codes, length}
 use Rattle.expr_tree.specs.Tree.{string, symbol}
-use Rattle.semantics.specs.Builtin.{Builtin, rows}
+use Rattle.semantics.specs.declared.builtin.Builtin.{Builtin}
+use Rattle.semantics.specs.Builtin.{rows}
 use Rattle.syntax.specs.Leaves.{number_leaf, string_leaf, name_leaf, blank_leaf, slot_leaf, Lexeme, lexemes}
 use Rattle.worked_texts.proofs.Sample.{names, find, of, x', h', int}
 

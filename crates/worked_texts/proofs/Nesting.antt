@@ -1,7 +1,7 @@
 -- The greatest nesting of a token is 1024.
 use Rattle.std.proofs.Common.{refl, ℕ, zero, suc, List, [], ◌∷◌, ◌++◌}
 use Rattle.std.specs.Prelude.{codes}
-use Rattle.semantics.specs.Builtin.{Builtin}
+use Rattle.semantics.specs.declared.builtin.Builtin.{Builtin}
 use Rattle.syntax.specs.Operators.{infix_row, level_of, right_of, gives_of, tags_of, leads_at, trails_at}
 use Rattle.syntax.specs.Terminals.{sign_start, sign_next, word_start, word_next, on_line}
 use Rattle.syntax.specs.Grammar.{nesting_limit}

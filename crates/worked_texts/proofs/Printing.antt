@@ -3,7 +3,8 @@ use Rattle.std.proofs.Common.{◌≡◌, refl, ℕ, ◌+◌, [], ◌∷◌, ◌+
 use Rattle.std.specs.Prelude.{codes, length}
 use Rattle.std.specs.Fmt.{digits}
 use Rattle.expr_tree.specs.Tree.{Tree, string, symbol, call}
-use Rattle.semantics.specs.Builtin.{Builtin, rows}
+use Rattle.semantics.specs.declared.builtin.Builtin.{Builtin}
+use Rattle.semantics.specs.Builtin.{rows}
 use Rattle.semantics.specs.Sections.{printed}
 use Rattle.syntax.specs.Lines as Lines
 use Rattle.syntax.specs.Make.{script}

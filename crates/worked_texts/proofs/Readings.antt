@@ -2,7 +2,7 @@
 use Rattle.std.proofs.Common.{◌≡◌, refl, ℕ, List, [], ◌∷◌, map, Option, Some, None, ap}
 use Rattle.std.specs.Prelude.{codes, length, drop}
 use Rattle.expr_tree.specs.Tree.{Tree, call}
-use Rattle.semantics.specs.Builtin.{Builtin}
+use Rattle.semantics.specs.declared.builtin.Builtin.{Builtin}
 use Rattle.syntax.specs.Tokens.{LexFault, BadByte, WideNumber, lex}
 use Rattle.syntax.specs.Leaves.{lexemes}
 use Rattle.syntax.specs.Operators.{infix_row, level_of, right_of, gives_of, tags_of, leads_at, trails_at}

@@ -3,7 +3,8 @@ use Rattle.std.proofs.Common.{ℕ, zero, suc, ◌+◌, ◌-◌, List, [], ◌∷
 use Rattle.std.specs.Prelude.{pos, negsuc, codes, map, length}
 use Rattle.expr_tree.specs.declared.sym.Sym.{Sym}
 use Rattle.expr_tree.specs.Tree.{Tree, integer, symbol}
-use Rattle.semantics.specs.Builtin.{Builtin, row_number, rows}
+use Rattle.semantics.specs.declared.builtin.Builtin.{Builtin}
+use Rattle.semantics.specs.Builtin.{row_number, rows}
 use Rattle.semantics.specs.Names.{Names, make}
 use Rattle.semantics.specs.Texts.{row_text}
 use Rattle.script_text.specs.Spelling.{Spelling, by_texts, place_in}

@@ -1,0 +1,3 @@
+pub mod Named
+pub mod Attributes
+pub mod Results
