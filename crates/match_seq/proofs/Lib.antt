@@ -2,3 +2,4 @@ pub mod Joins
 pub mod KindForms
 pub mod Complete
 pub mod Places
+pub mod Steps

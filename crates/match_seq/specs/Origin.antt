@@ -1,5 +1,5 @@
 -- The constructs by their names.
-use Rattle.semantics.specs.Builtin.{Builtin}
+use Rattle.semantics.specs.declared.builtin.Builtin.{Builtin}
 use Rattle.semantics.specs.Names.{Names, known}
 use Rattle.match_seq.specs.declared.constructs.Constructs.{Constructs}
 

@@ -6,5 +6,6 @@ mod found;
 mod goal;
 mod setting;
 mod shapes;
+mod take;
 
 pub use found::{Found, Guard, Guards};
