@@ -3,3 +3,5 @@ pub mod KindForms
 pub mod Complete
 pub mod Places
 pub mod Steps
+pub mod Ways
+pub mod Stacks

@@ -82,7 +82,7 @@ impl Level {
 }
 
 impl Choice {
-    fn copy(&self, alloc: Global) -> Result<Choice, AllocError>
+    pub(crate) fn copy(&self, alloc: Global) -> Result<Choice, AllocError>
         ensures { IfOk result (λ choice. choice ≡ self.now) }
     {
         Ok(Choice {

@@ -1,11 +1,16 @@
 //! Matching: the bindings by which a pattern matches an expression, one at a time in their order.
 #![tactic(auto)]
 
+mod choose;
 mod constructs;
+mod fill;
 mod found;
 mod goal;
+mod matcher;
 mod setting;
 mod shapes;
 mod take;
+mod turn;
 
 pub use found::{Found, Guard, Guards};
+pub use matcher::Matcher;

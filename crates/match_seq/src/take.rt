@@ -4,7 +4,8 @@ ghost use Rattle.expr_tree.specs.Tree.{normal, trees};
 ghost use Rattle.semantics.specs.Match as defined;
 ghost use Rattle.semantics.specs.Match.{how_of, have_head};
 ghost use Rattle.match_seq.specs.declared.constructs.Form.TheVariants as form;
-ghost use Rattle.match_seq.specs.Search.{step, dead, go_on, go_with, by_first, by_two, adding, find_literal, find_bound, find_named, find_normal, find_form, find_any, parts, find};
+ghost use Rattle.match_seq.specs.Search.{step, dead, go_on, go_with, by_first, by_two, adding, find_literal, find_bound, find_named, find_normal, find_form, find_any, find_items, parts, find};
+ghost use Rattle.match_seq.specs.Forms.{form_of};
 ghost use Rattle.match_seq.specs.Goals.{found_of, guard_of, told, find_pattern, reach, rest, branch, branch_or_dead, after};
 
 use crate::constructs::Form;
@@ -157,6 +158,146 @@ impl Setting {
             Some(found) => {
                 self.one(Goal::Take(pattern.copy(alloc)?, run), Branch { goals, found })
             }
+        }
+    }
+}
+
+impl Setting {
+    /// The element patterns of a whole level are filled with elements.
+    pub(crate) fn filled(
+        &self,
+        alloc: Global,
+        pattern: &Expr,
+        _head: &Expr,
+        _items: &Exprs,
+        elements: &Exprs,
+        onward: Branch,
+    ) -> Result<Branch, AllocError>
+        requires { pattern.now ≡ normal _head.now (trees _items.now) }
+        ensures rest { IfOk result (λ b. rest self.now b ≡ find_items self.now.constructs (how_of (told self.now.hows) _head.now) _head.now (parts self.now.constructs (told self.now.hows) (trees _items.now)) elements.now (rest self.now onward)) }
+        ensures found { IfOk result (λ b. b.found ≡ onward.found) }
+    {
+        let level = Level {
+            pattern: pattern.copy(alloc)?,
+            at: 0,
+        };
+        self.before(Goal::Fill(level, copy_items(alloc, elements)?), onward)
+    }
+
+    #[tactic(auto, using(crate::proofs::Steps::form_steps))]
+    fn alternatives(
+        &self,
+        alloc: Global,
+        pattern: &Expr,
+        _head: &Expr,
+        _items: &Exprs,
+        run: Exprs,
+        onward: Branch,
+    ) -> Result<Turn, AllocError>
+        requires { pattern.now ≡ normal _head.now (trees _items.now) }
+        ensures { IfOk result (λ t. after self.now t ≡ step (find_any (parts self.now.constructs (told self.now.hows) (trees _items.now)) run (rest self.now onward) (found_of onward.found))) }
+    {
+        let level = Level {
+            pattern: pattern.copy(alloc)?,
+            at: 0,
+        };
+        self.one(Goal::OneOf(level, run), onward)
+    }
+
+    /// A pattern that is no construct takes one normal expression.
+    #[tactic(auto, using(crate::proofs::Steps::form_steps))]
+    fn ordinary(
+        &self,
+        alloc: Global,
+        pattern: &Expr,
+        head: &Expr,
+        items: &Exprs,
+        run: &Exprs,
+        onward: Branch,
+    ) -> Result<Turn, AllocError>
+        requires { pattern.now ≡ normal head.now (trees items.now) }
+        ensures { IfOk result (λ t. after self.now t ≡ find_normal self.now.constructs (how_of (told self.now.hows) head.now) head.now (find_pattern self.now head.now) (parts self.now.constructs (told self.now.hows) (trees items.now)) run.now (rest self.now onward) (found_of onward.found)) }
+    {
+        let [only] = run.as_slice() else {
+            return Ok(Turn::One(None));
+        };
+        let Node::Normal(subject_head, elements) = only.node() else {
+            return Ok(Turn::One(None));
+        };
+        let onward = self.filled(alloc, pattern, head, items, elements, onward)?;
+        let mut heads = Items::new(alloc);
+        heads.push(subject_head.copy(alloc)?)?;
+        self.one(Goal::Take(head.copy(alloc)?, heads), onward)
+    }
+
+    #[tactic(auto, using(crate::proofs::Steps::form_steps))]
+    fn named(
+        &self,
+        alloc: Global,
+        pattern: &Expr,
+        head: &Expr,
+        items: &Exprs,
+        run: Exprs,
+        onward: Branch,
+    ) -> Result<Turn, AllocError>
+        requires { pattern.now ≡ normal head.now (trees items.now) }
+        ensures { IfOk result (λ t. after self.now t ≡ by_two (λ x p. find_named x.tree p.finder (find_normal self.now.constructs (how_of (told self.now.hows) head.now) head.now (find_pattern self.now head.now) (parts self.now.constructs (told self.now.hows) (trees items.now)))) (parts self.now.constructs (told self.now.hows) (trees items.now)) run (rest self.now onward) (found_of onward.found)) }
+    {
+        let (Some(name), Some(inner)) = (first_of(items, 0), first_of(items, 1)) else {
+            return Ok(Turn::One(None));
+        };
+        match name.node() {
+            Node::Symbol(symbol) => self.bound(alloc, *symbol, inner, run, onward),
+            _ => self.ordinary(alloc, pattern, head, items, &run, onward),
+        }
+    }
+
+    #[tactic(auto, using(crate::proofs::Steps::form_steps))]
+    fn take_normal(
+        &self,
+        alloc: Global,
+        pattern: &Expr,
+        head: &Expr,
+        items: &Exprs,
+        run: Exprs,
+        onward: Branch,
+    ) -> Result<Turn, AllocError>
+        requires { pattern.now ≡ normal head.now (trees items.now) }
+        ensures { IfOk result (λ t. after self.now t ≡ find_form (form_of self.now.constructs head.now (length items.now)) (parts self.now.constructs (told self.now.hows) (trees items.now)) (find_normal self.now.constructs (how_of (told self.now.hows) head.now) head.now (find_pattern self.now head.now) (parts self.now.constructs (told self.now.hows) (trees items.now))) run (rest self.now onward) (found_of onward.found)) }
+    {
+        match self.constructs.form(head, items.len()) {
+            Form::One => Ok(self.go_on(run.len() == 1, onward)),
+            Form::OneOf => Ok(self.headed(run.len() == 1, items, &run, onward)),
+            Form::Some => Ok(self.go_on(0 < run.len(), onward)),
+            Form::SomeOf => Ok(self.headed(0 < run.len(), items, &run, onward)),
+            Form::Any => Ok(self.go_on(true, onward)),
+            Form::AnyOf => Ok(self.headed(true, items, &run, onward)),
+            Form::Named => self.named(alloc, pattern, head, items, run, onward),
+            Form::Tested => self.asked(alloc, items, run, onward),
+            Form::Conditioned => self.conditioned(alloc, items, run, onward),
+            Form::Alternatives => self.alternatives(alloc, pattern, head, items, run, onward),
+            Form::Held => self.held(alloc, items, run, onward),
+            Form::Verbatim => Ok(self.verbatim(items, &run, onward)),
+            Form::Ordinary => self.ordinary(alloc, pattern, head, items, &run, onward),
+        }
+    }
+
+    /// A pattern takes a run.
+    #[tactic(auto, using(crate::proofs::Steps::form_steps))]
+    pub(crate) fn take(
+        &self,
+        alloc: Global,
+        pattern: &Expr,
+        run: Exprs,
+        onward: Branch,
+    ) -> Result<Turn, AllocError>
+        ensures { IfOk result (λ t. after self.now t ≡ find_pattern self.now pattern.now run (rest self.now onward) (found_of onward.found)) }
+    {
+        match pattern.node() {
+            Node::Normal(head, items) => {
+                self.take_normal(alloc, pattern, head, items, run, onward)
+            }
+            _ => Ok(self.go_on(is_alone(pattern, &run), onward)),
         }
     }
 }

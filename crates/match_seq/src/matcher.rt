@@ -1,0 +1,77 @@
+ghost use Rattle.std.specs.Prelude.{◌≡◌, ◌∷◌, ◌++◌, [], ◌+◌, ◌<◌, IfOk, OnOk, MatchOption};
+ghost use Rattle.semantics.specs.Match.{nothing_found};
+ghost use Rattle.match_seq.specs.Search.{answer, answers, steps};
+ghost use Rattle.match_seq.specs.Goals.{found_of, find_pattern, branch, branch_or_dead, after, left, work};
+
+use crate::found::Found;
+use crate::goal::{Branch, Goal, Turn};
+use crate::setting::Setting;
+use expr_tree::Expr;
+use item_list::Items;
+use std::alloc::{AllocError, Global};
+use std::marker::Model;
+
+/// The bindings by which a pattern matches an expression, as far as they are still to come, in their order.
+#[derive(Drop)]
+pub struct Matcher {
+    setting: Setting,
+    stack: Items<Branch>,
+}
+
+impl Model for Matcher {
+    ghost use Rattle.std.specs.Prelude.{List};
+    ghost use Rattle.semantics.specs.Match.{Found};
+    ghost use Rattle.match_seq.specs.Goals.{left};
+
+    ghost Value = { List Found };
+
+    ghost view = { λ m. left m.setting m.stack };
+}
+
+#[tactic(auto, using(crate::proofs::Stacks::stack_steps))]
+fn put_some(
+    _setting: &Setting,
+    stack: &mut Items<Branch>,
+    next: Option<Branch>,
+) -> Result<(), AllocError>
+    ensures left { OnOk result (left _setting.now stack.new ≡ answers (branch_or_dead _setting.now next) ++ left _setting.now stack.old) }
+    ensures work { OnOk result (work _setting.now stack.new ≡ steps (branch_or_dead _setting.now next) + work _setting.now stack.old) }
+{
+    match next {
+        None => Ok(()),
+        Some(branch) => stack.push(branch),
+    }
+}
+
+/// The stack with where a step leads in the place of the branch that was taken off.
+#[tactic(auto, using(crate::proofs::Stacks::stack_steps))]
+fn put_turn(_setting: &Setting, stack: &mut Items<Branch>, turn: Turn) -> Result<(), AllocError>
+    ensures left { OnOk result (left _setting.now stack.new ≡ answers (after _setting.now turn) ++ left _setting.now stack.old) }
+    ensures work { OnOk result (work _setting.now stack.new < steps (after _setting.now turn) + work _setting.now stack.old) }
+{
+    match turn {
+        Turn::One(next) => put_some(_setting, stack, next),
+        Turn::Two(first, later) => {
+            stack.push(later)?;
+            put_some(_setting, stack, first)
+        }
+    }
+}
+
+impl Matcher {
+    /// The next binding, or `None` after the last. It looks no further than that binding.
+    #[tactic(auto, using(crate::proofs::Stacks::stack_steps))]
+    pub fn next(&mut self, alloc: Global) -> Result<Option<Found>, AllocError>
+        ensures { IfOk result (λ found. MatchOption found ((self.old ≡ []) × (self.new ≡ [])) (λ f. self.old ≡ found_of f ∷ self.new)) }
+    {
+        while let Some(branch) = self.stack.pop() {
+            let Branch { mut goals, found } = branch;
+            let Some(goal) = goals.pop() else {
+                return Ok(Some(found));
+            };
+            let turn = self.setting.turn(alloc, goal, Branch { goals, found })?;
+            put_turn(&self.setting, &mut self.stack, turn)?;
+        }
+        Ok(None)
+    }
+}
