@@ -5,3 +5,4 @@ pub mod Places
 pub mod Steps
 pub mod Ways
 pub mod Stacks
+pub mod Told

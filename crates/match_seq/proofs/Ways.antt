@@ -17,10 +17,10 @@ drop_none [] (suc i) e = refl
 drop_none (y ∷ ys) zero e = absurd (cc)
 drop_none (y ∷ ys) (suc i) e = drop_none ys i e
 
-drop_at : (xs : List Tree) (i : ℕ) → i < length xs → (x : Tree) × (drop i xs ≡ x ∷ drop (i + 1) xs) × (take (i + 1) xs ≡ take i xs ++ x ∷ [])
+drop_at : (xs : List Tree) (i : ℕ) → i < length xs → (x : Tree) × (drop i xs ≡ x ∷ drop (suc i) xs) × (take (suc i) xs ≡ take i xs ++ x ∷ [])
 drop_at [] i p = absurd (omega (arith, p))
 drop_at (y ∷ ys) zero p = (y, refl, refl)
-drop_at (y ∷ ys) (suc i) p = let (x, d, t) = drop_at ys i (omega (arith, p)) in (x, rw add-one (d ∙ rw add-one refl), rw add-one (ap (λ zs. y ∷ zs) (rw (sym (add-one i)) t)))
+drop_at (y ∷ ys) (suc i) p = let (x, d, t) = drop_at ys i (omega (arith, p)) in (x, d, ap (λ zs. y ∷ zs) t)
 
 pub no_element : (cs : Constructs) (how : Matching) (h : Tree) (es : List Tree) (next : Next) (found : Found) → es ≢ [] → find_items cs how h [] es next found ≡ step dead
 no_element cs how h [] next found other = absurd (other refl)
@@ -29,8 +29,8 @@ no_element cs how h (e ∷ es) next found other = refl
 pub runs-fork : (fit : Use) (size end : ℕ) (es : List Tree) → size < end → size < length es → find_runs fit (end - size) (take size es) (drop size es) ≡ fork (fit (take size es) (drop size es)) (find_runs fit (end - (size + 1)) (take (size + 1) es) (drop (size + 1) es))
 runs-fork fit size end es p q =
     let (x, d, t) = drop_at es size q in
-    let m : end - size ≡ suc (end - (size + 1)) = omega (arith, p) in
-    rw (m, t, d) refl
+    let m : end - size ≡ suc (end - suc size) = omega (arith, p) in
+    rw (add-one, m, t, d) refl
 
 runs_one : (fit : Use) (more : ℕ) (taken : List Tree) → find_runs fit more taken [] ≡ step (fit taken [])
 runs_one fit zero taken = refl
@@ -40,12 +40,12 @@ pub runs-last : (fit : Use) (size end : ℕ) (es : List Tree) → end ≤ size �
 runs-last fit size end es p = let m : end - size ≡ 0 = omega (arith, p) in rw m refl
 
 pub runs-all : (fit : Use) (size end : ℕ) (es : List Tree) → length es ≤ size → find_runs fit (end - size) (take size es) (drop size es) ≡ step (fit (take size es) (drop size es))
-runs-all fit size end es p = rw (drop_of_length-le size es p) (runs_one fit (end - size) (take size es))
+runs-all fit size end es p = rw (drop_of_length-le es p) (runs_one fit (end - size) (take size es))
 
 pub sizes-fork : (fit : Use) (size end : ℕ) (es : List Tree) → size < end → find_sizes fit size (end - size) es ≡ fork (find_choices fit size [] [] es) (find_sizes fit (size + 1) (end - (size + 1)) es)
 sizes-fork fit size end es p =
-    let m : end - size ≡ suc (end - (size + 1)) = omega (arith, p) in
-    rw (m, add-one) refl
+    let m : end - size ≡ suc (end - suc size) = omega (arith, p) in
+    rw (add-one, m) refl
 
 pub sizes-last : (fit : Use) (size end : ℕ) (es : List Tree) → end ≤ size → find_sizes fit size (end - size) es ≡ step (find_choices fit size [] [] es)
 sizes-last fit size end es p = let m : end - size ≡ 0 = omega (arith, p) in rw m refl
@@ -65,4 +65,5 @@ choices-fork fit (suc n) taken left es fs e other is =
 
 pub ruleset part_steps = (take_all, drop_of_length-le)
 pub ruleset fill_steps = (form_steps, no_element)
+pub ruleset run_steps = (form_steps, runs-fork, runs-last, runs-all)
 pub ruleset way_steps = (form_steps, drop_some, drop_none, runs-fork, runs-last, runs-all, sizes-fork, sizes-last, choices-done, choices-none, choices-fork)

@@ -8,28 +8,39 @@ use crate::fill::back;
 use crate::goal::{Branch, Choice, Goal, Level, Turn};
 use crate::setting::Setting;
 use expr_tree::{Exprs, copy_items};
-use item_list::Items;
 use std::alloc::{AllocError, Global};
 
 impl Setting {
-    #[tactic(auto, using(crate::proofs::Ways::way_steps))]
-    fn from_front(
+    /// The branch that goes on choosing, of copies.
+    fn copied_choose(
         &self,
         alloc: Global,
-        level: Level,
+        level: &Level,
         size: usize,
-        elements: Exprs,
-        onward: Branch,
+        choice: Choice,
+        onward: &Branch,
     ) -> Result<Branch, AllocError>
-        ensures { IfOk result (λ b. branch self.now b ≡ find_choices (use_level self.now level (rest self.now onward) (found_of onward.found)) size [] [] elements) }
+        ensures { IfOk result (λ b. branch self.now b ≡ find_choices (use_level self.now level.now (rest self.now onward.now) (found_of onward.now.found)) size choice.taken choice.left (drop choice.at choice.elements)) }
     {
-        let choice = Choice {
-            taken: Items::new(alloc),
-            left: Items::new(alloc),
-            elements,
-            at: 0,
-        };
-        self.before(Goal::Choose(level, size, choice), onward)
+        let onward = onward.copy(alloc)?;
+        let made = self.before(Goal::Choose(level.copy(alloc)?, size, choice), onward)?;
+        Ok(made)
+    }
+
+    /// The branch that takes a sub-list of a size, of copies.
+    fn of_elements(
+        &self,
+        alloc: Global,
+        level: &Level,
+        size: usize,
+        elements: &Exprs,
+        onward: &Branch,
+    ) -> Result<Branch, AllocError>
+        ensures { IfOk result (λ b. branch self.now b ≡ find_choices (use_level self.now level.now (rest self.now onward.now) (found_of onward.now.found)) size [] [] elements.now) }
+    {
+        let choice = Choice::of(alloc, copy_items(alloc, elements)?);
+        let made = self.copied_choose(alloc, level, size, choice, onward)?;
+        Ok(made)
     }
 
     #[tactic(auto, using(crate::proofs::Ways::way_steps))]
@@ -45,12 +56,12 @@ impl Setting {
         ensures { IfOk result (λ t. after self.now t ≡ reach self.now (goal.Sizes level size end elements) (rest self.now onward) (found_of onward.found)) }
     {
         if size < end {
-            let copies = copy_items(alloc, &elements)?;
-            let first = self.from_front(alloc, level.copy(alloc)?, size, copies, onward.copy(alloc)?)?;
+            let first = self.of_elements(alloc, &level, size, &elements, &onward)?;
             let later = self.before(Goal::Sizes(level, size + 1, end, elements), onward)?;
             return Ok(Turn::Two(Some(first), later));
         }
-        Ok(Turn::One(Some(self.from_front(alloc, level, size, elements, onward)?)))
+        let last = self.of_elements(alloc, &level, size, &elements, &onward)?;
+        Ok(Turn::One(Some(last)))
     }
 
     #[tactic(auto, using(crate::proofs::Ways::way_steps))]
@@ -70,7 +81,8 @@ impl Setting {
             at,
         } = choice;
         left.append(back(alloc, &elements, at)?)?;
-        Ok(Turn::One(self.used(alloc, level, taken, left, onward)?))
+        let made = self.used(alloc, level, taken, left, onward)?;
+        Ok(Turn::One(made))
     }
 
     #[tactic(auto, using(crate::proofs::Ways::way_steps))]
@@ -92,14 +104,9 @@ impl Setting {
             return Ok(Turn::One(None));
         };
         let (taken, left) = (next.copy(alloc)?, next.copy(alloc)?);
-        let mut with = choice.copy(alloc)?;
-        with.taken.push(taken)?;
-        with.at += 1;
-        let mut without = choice;
-        without.left.push(left)?;
-        without.at += 1;
-        let first = Goal::Choose(level.copy(alloc)?, size - 1, with);
-        let first = self.before(first, onward.copy(alloc)?)?;
+        let with = choice.copy(alloc)?.taking(taken)?;
+        let without = choice.leaving(left)?;
+        let first = self.copied_choose(alloc, &level, size - 1, with, &onward)?;
         let later = self.before(Goal::Choose(level, size, without), onward)?;
         Ok(Turn::Two(Some(first), later))
     }

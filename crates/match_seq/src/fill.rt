@@ -127,7 +127,39 @@ impl Setting {
         }
     }
 
-    #[tactic(auto, using(crate::proofs::Ways::way_steps))]
+    /// The first element pattern takes this many elements from the front.
+    fn of_size(
+        &self,
+        alloc: Global,
+        level: &Level,
+        size: usize,
+        elements: &Exprs,
+        onward: Branch,
+    ) -> Result<Option<Branch>, AllocError>
+        ensures { IfOk result (λ b. branch_or_dead self.now b ≡ use_level self.now level.now (rest self.now onward) (found_of onward.found) (take size elements.now) (drop size elements.now)) }
+    {
+        let taken = front(alloc, elements, size)?;
+        let left = back(alloc, elements, size)?;
+        let made = self.used(alloc, level, taken, left, onward)?;
+        Ok(made)
+    }
+
+    fn copied_of_size(
+        &self,
+        alloc: Global,
+        level: &Level,
+        size: usize,
+        elements: &Exprs,
+        onward: &Branch,
+    ) -> Result<Option<Branch>, AllocError>
+        ensures { IfOk result (λ b. branch_or_dead self.now b ≡ use_level self.now level.now (rest self.now onward.now) (found_of onward.now.found) (take size elements.now) (drop size elements.now)) }
+    {
+        let onward = onward.copy(alloc)?;
+        let made = self.of_size(alloc, level, size, elements, onward)?;
+        Ok(made)
+    }
+
+    #[tactic(auto, using(crate::proofs::Ways::run_steps))]
     pub(crate) fn runs(
         &self,
         alloc: Global,
@@ -139,13 +171,12 @@ impl Setting {
     ) -> Result<Turn, AllocError>
         ensures { IfOk result (λ t. after self.now t ≡ reach self.now (goal.Runs level size end elements) (rest self.now onward) (found_of onward.found)) }
     {
-        let taken = front(alloc, &elements, size)?;
-        let left = back(alloc, &elements, size)?;
         if size < end && size < elements.len() {
-            let first = self.used(alloc, &level, taken, left, onward.copy(alloc)?)?;
+            let first = self.copied_of_size(alloc, &level, size, &elements, &onward)?;
             let later = self.before(Goal::Runs(level, size + 1, end, elements), onward)?;
             return Ok(Turn::Two(first, later));
         }
-        Ok(Turn::One(self.used(alloc, &level, taken, left, onward)?))
+        let last = self.of_size(alloc, &level, size, &elements, onward)?;
+        Ok(Turn::One(last))
     }
 }

@@ -1,4 +1,4 @@
-ghost use Rattle.std.specs.Prelude.{◌≡◌, ◌+◌, ◌-◌, ◌^◌, ◌<◌, drop, length, IfOk, MatchOption, OnSome};
+ghost use Rattle.std.specs.Prelude.{◌≡◌, [], ◌∷◌, ◌++◌, ◌+◌, ◌-◌, ◌^◌, ◌<◌, drop, length, IfOk, MatchOption, OnSome};
 ghost use Rattle.expr_tree.specs.Tree.{trees, nil, cons};
 ghost use Rattle.semantics.specs.Names.{items_of};
 ghost use Rattle.match_seq.specs.Goals.{head_in};
@@ -82,6 +82,18 @@ impl Level {
 }
 
 impl Choice {
+    /// Nothing of the elements is taken or left yet.
+    pub(crate) fn of(alloc: Global, elements: Exprs) -> Choice
+        ensures { result ≡ record { taken = []; left = []; elements = elements; at = 0 } }
+    {
+        Choice {
+            taken: Items::new(alloc),
+            left: Items::new(alloc),
+            elements,
+            at: 0,
+        }
+    }
+
     pub(crate) fn copy(&self, alloc: Global) -> Result<Choice, AllocError>
         ensures { IfOk result (λ choice. choice ≡ self.now) }
     {
@@ -90,6 +102,50 @@ impl Choice {
             left: copy_items(alloc, &self.left)?,
             elements: copy_items(alloc, &self.elements)?,
             at: self.at,
+        })
+    }
+}
+
+impl Choice {
+    /// The next element is taken.
+    pub(crate) fn taking(self, next: Expr) -> Result<Choice, AllocError>
+        requires { self.at < length self.elements }
+        ensures { IfOk result (λ choice. choice ≡ record { taken = self.taken ++ next ∷ []; left = self.left; elements = self.elements; at = self.at + 1 }) }
+    {
+        let Choice {
+            mut taken,
+            left,
+            elements,
+            at,
+        } = self;
+        taken.push(next)?;
+        let _count = elements.len();
+        Ok(Choice {
+            taken,
+            left,
+            elements,
+            at: at + 1,
+        })
+    }
+
+    /// The next element is left.
+    pub(crate) fn leaving(self, next: Expr) -> Result<Choice, AllocError>
+        requires { self.at < length self.elements }
+        ensures { IfOk result (λ choice. choice ≡ record { taken = self.taken; left = self.left ++ next ∷ []; elements = self.elements; at = self.at + 1 }) }
+    {
+        let Choice {
+            taken,
+            mut left,
+            elements,
+            at,
+        } = self;
+        left.push(next)?;
+        let _count = elements.len();
+        Ok(Choice {
+            taken,
+            left,
+            elements,
+            at: at + 1,
         })
     }
 }

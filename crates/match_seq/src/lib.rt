@@ -9,8 +9,12 @@ mod goal;
 mod matcher;
 mod setting;
 mod shapes;
+mod source;
 mod take;
+#[cfg(test)]
+mod tests;
 mod turn;
 
 pub use found::{Found, Guard, Guards};
 pub use matcher::Matcher;
+pub use source::AttrSource;

@@ -1,11 +1,16 @@
 ghost use Rattle.std.specs.Prelude.{◌≡◌, ◌∷◌, ◌++◌, [], ◌+◌, ◌<◌, IfOk, OnOk, MatchOption};
-ghost use Rattle.semantics.specs.Match.{nothing_found};
+ghost use Rattle.semantics.specs.Match.{nothing_found, matches};
+ghost use Rattle.semantics.specs.Names as n;
+ghost use Rattle.match_seq.specs.Heads.{matching, heads, told_of};
+ghost use Rattle.match_seq.specs.Origin.{constructs_of};
 ghost use Rattle.match_seq.specs.Search.{answer, answers, steps};
 ghost use Rattle.match_seq.specs.Goals.{found_of, find_pattern, branch, branch_or_dead, after, left, work};
 
+use crate::constructs::Constructs;
 use crate::found::Found;
 use crate::goal::{Branch, Goal, Turn};
 use crate::setting::Setting;
+use crate::source::{AttrSource, add_heads};
 use expr_tree::Expr;
 use item_list::Items;
 use std::alloc::{AllocError, Global};
@@ -23,7 +28,12 @@ impl Model for Matcher {
     ghost use Rattle.semantics.specs.Match.{Found};
     ghost use Rattle.match_seq.specs.Goals.{left};
 
+    ghost use Rattle.std.specs.Coded.{coded_list};
+    ghost use Rattle.match_seq.specs.Code.{coded_found};
+
     ghost Value = { List Found };
+
+    ghost coded = { coded_list coded_found };
 
     ghost view = { λ m. left m.setting m.stack };
 }
@@ -58,7 +68,63 @@ fn put_turn(_setting: &Setting, stack: &mut Items<Branch>, turn: Turn) -> Result
     }
 }
 
+impl Setting {
+    /// What a search for a pattern reads patterns by.
+    fn of<A: AttrSource>(
+        alloc: Global,
+        constructs: Constructs,
+        pattern: &Expr,
+        attrs: &A,
+    ) -> Result<Setting, AllocError>
+        ensures constructs { IfOk result (λ s. s.constructs ≡ constructs) }
+        ensures hows { IfOk result (λ s. s.hows ≡ told_of (λ s. matching (A.told attrs.now s)) (heads pattern.now)) }
+    {
+        let mut hows = Items::new(alloc);
+        add_heads(attrs, pattern, &mut hows)?;
+        Ok(Setting { constructs, hows })
+    }
+
+    /// The stack before the first step.
+    #[tactic(auto, using(crate::proofs::Stacks::stack_steps))]
+    fn start(
+        &self,
+        alloc: Global,
+        pattern: &Expr,
+        subject: &Expr,
+    ) -> Result<Items<Branch>, AllocError>
+        ensures { IfOk result (λ bs. left self.now bs ≡ answers (find_pattern self.now pattern.now (subject.now ∷ []) answer nothing_found)) }
+    {
+        let mut run = Items::new(alloc);
+        run.push(subject.copy(alloc)?)?;
+        let found = Found {
+            bindings: Items::new(alloc),
+            guards: Items::new(alloc),
+        };
+        let goals = Items::new(alloc);
+        let goal = Goal::Take(pattern.copy(alloc)?, run);
+        let first = self.before(goal, Branch { goals, found })?;
+        let mut stack = Items::new(alloc);
+        stack.push(first)?;
+        Ok(stack)
+    }
+}
+
 impl Matcher {
+    /// The bindings by which a pattern matches an expression, by the symbols of the constructs.
+    pub(crate) fn by<A: AttrSource>(
+        alloc: Global,
+        constructs: Constructs,
+        pattern: &Expr,
+        subject: &Expr,
+        attrs: &A,
+    ) -> Result<Matcher, AllocError>
+        ensures { IfOk result (λ m. (names : n.Names) → constructs ≡ constructs_of names → m ≡ matches names (λ s. matching (A.told attrs.now s)) pattern.now subject.now) }
+    {
+        let setting = Setting::of(alloc, constructs, pattern, attrs)?;
+        let stack = setting.start(alloc, pattern, subject)?;
+        Ok(Matcher { setting, stack })
+    }
+
     /// The next binding, or `None` after the last. It looks no further than that binding.
     #[tactic(auto, using(crate::proofs::Stacks::stack_steps))]
     pub fn next(&mut self, alloc: Global) -> Result<Option<Found>, AllocError>

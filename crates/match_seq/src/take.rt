@@ -34,6 +34,7 @@ impl Setting {
     pub(crate) fn before(&self, goal: Goal, onward: Branch) -> Result<Branch, AllocError>
         ensures rest { IfOk result (λ b. rest self.now b ≡ reach self.now goal (rest self.now onward)) }
         ensures found { IfOk result (λ b. b.found ≡ onward.found) }
+        ensures branch { IfOk result (λ b. branch self.now b ≡ reach self.now goal (rest self.now onward) (found_of onward.found)) }
     {
         let Branch { mut goals, found } = onward;
         goals.push(goal)?;
@@ -181,7 +182,8 @@ impl Setting {
             pattern: pattern.copy(alloc)?,
             at: 0,
         };
-        self.before(Goal::Fill(level, copy_items(alloc, elements)?), onward)
+        let made = self.before(Goal::Fill(level, copy_items(alloc, elements)?), onward)?;
+        Ok(made)
     }
 
     #[tactic(auto, using(crate::proofs::Steps::form_steps))]
