@@ -1,0 +1,20 @@
+//! Matching: the bindings by which a pattern matches an expression, one at a time in their order.
+#![tactic(auto)]
+
+mod choose;
+mod constructs;
+mod fill;
+mod found;
+mod goal;
+mod matcher;
+mod setting;
+mod shapes;
+mod source;
+mod take;
+#[cfg(test)]
+mod tests;
+mod turn;
+
+pub use found::{Found, Guard, Guards};
+pub use matcher::Matcher;
+pub use source::AttrSource;

@@ -1,0 +1,107 @@
+ghost use Rattle.std.specs.Prelude.{◌≡◌};
+ghost use Rattle.semantics.specs.Match.{how_of};
+ghost use Rattle.match_seq.specs.Goals.{matching_of, told, head_in, how_in};
+ghost use Rattle.match_seq.specs.Search.{is_single, is_short, wraps, stays_short};
+
+use crate::constructs::{Constructs, Form};
+use expr_tree::{Expr, Node, Sym};
+use item_list::Items;
+
+/// Flat and Orderless of a head.
+#[derive(Clone, Copy)]
+pub(crate) struct How {
+    pub(crate) flat: bool,
+    pub(crate) orderless: bool,
+}
+
+/// What a search reads patterns by: the constructs, and what the heads of patterns are.
+#[derive(Drop)]
+pub(crate) struct Setting {
+    pub(crate) constructs: Constructs,
+    pub(crate) hows: Items<(Sym, How)>,
+}
+
+/// The head of a pattern, or an atom itself.
+pub(crate) fn head_in(pattern: &Expr) -> &Expr
+    ensures { result.now ≡ head_in pattern.now }
+{
+    match pattern.node() {
+        Node::Normal(head, _) => head,
+        _ => pattern,
+    }
+}
+
+impl Setting {
+    fn told(&self, symbol: Sym) -> How
+        ensures { matching_of result ≡ told self.now.hows symbol }
+    {
+        for (head, how) in self.hows.as_slice() {
+            if *head == symbol {
+                return *how;
+            }
+        }
+        How {
+            flat: false,
+            orderless: false,
+        }
+    }
+
+    /// Flat and Orderless of a pattern.
+    pub(crate) fn how_in(&self, pattern: &Expr) -> How
+        ensures { matching_of result ≡ how_in self.now pattern.now }
+    {
+        match head_in(pattern).node() {
+            Node::Symbol(symbol) => self.told(*symbol),
+            _ => How {
+                flat: false,
+                orderless: false,
+            },
+        }
+    }
+}
+
+impl Constructs {
+    /// Whether a pattern is a single blank, also under a name, a test, a condition or `HoldPattern`.
+    #[tactic(auto, using(crate::proofs::Places::item_steps))]
+    pub(crate) fn is_single(&self, pattern: &Expr) -> bool
+        ensures { result ≡ is_single self.now pattern.now }
+    {
+        let Node::Normal(head, items) = pattern.node() else {
+            return false;
+        };
+        match self.form(head, items.len()) {
+            Form::One | Form::OneOf => true,
+            Form::Named => match items.as_slice() {
+                [_, second, ..] => self.is_single(second),
+                _ => false,
+            },
+            Form::Tested | Form::Conditioned | Form::Held => match items.as_slice() {
+                [first, ..] => self.is_single(first),
+                [] => false,
+            },
+            _ => false,
+        }
+    }
+
+    /// Whether a pattern takes no run of two or more, as its outermost forms tell.
+    #[tactic(auto, using(crate::proofs::Places::item_steps))]
+    pub(crate) fn is_short(&self, pattern: &Expr) -> bool
+        ensures { result ≡ is_short self.now pattern.now }
+    {
+        let Node::Normal(head, items) = pattern.node() else {
+            return true;
+        };
+        match self.form(head, items.len()) {
+            Form::One | Form::OneOf | Form::Verbatim | Form::Ordinary => true,
+            Form::Named => match items.as_slice() {
+                [_, second, ..] => self.is_short(second),
+                _ => false,
+            },
+            Form::Tested | Form::Conditioned | Form::Held => match items.as_slice() {
+                [first, ..] => self.is_short(first),
+                [] => false,
+            },
+            _ => false,
+        }
+    }
+}
