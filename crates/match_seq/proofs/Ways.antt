@@ -64,6 +64,9 @@ choices-fork fit (suc n) taken left es fs e other is =
     rw (is, m) refl
 
 pub ruleset part_steps = (take_all, drop_of_length-le)
+
 pub ruleset fill_steps = (form_steps, no_element)
+
 pub ruleset run_steps = (form_steps, runs-fork, runs-last, runs-all)
+
 pub ruleset way_steps = (form_steps, drop_some, drop_none, runs-fork, runs-last, runs-all, sizes-fork, sizes-last, choices-done, choices-none, choices-fork)
