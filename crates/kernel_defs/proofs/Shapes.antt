@@ -1,5 +1,5 @@
 -- The first cause of a refusal where nothing is protected.
-use Rattle.std.proofs.Common.{◌≡◌, ◌∙◌, refl, sym, ap, List, [], ◌∷◌, map, true, false, Some, None}
+use Rattle.std.proofs.Common.{◌≡◌, ◌∙◌, refl, ap, List, [], ◌∷◌, true, false, Some, None}
 use Rattle.std.specs.Prelude.{Bool, Option, ◌&&◌, not}
 use Rattle.semantics.specs.Definitions.{is_empty}
 use Rattle.expr_tree.specs.declared.sym.Sym.{Sym}

@@ -1,5 +1,5 @@
 -- Targets made one after the other.
-use Rattle.std.proofs.Common.{◌≡◌, ◌∙◌, refl, sym, ap, List, [], ◌∷◌, ◌++◌, map, arith}
+use Rattle.std.proofs.Common.{◌≡◌, refl, ap, List, [], ◌∷◌, map}
 use Rattle.std.proofs.lemmas.List.{map-append}
 use Rattle.expr_tree.specs.declared.sym.Sym.{Sym}
 use Rattle.kernel_defs.specs.declared.targets.Target as c

@@ -1,5 +1,5 @@
 -- How many subexpressions a number of the key counts: no more than there are atoms.
-use Rattle.std.proofs.Common.{◌≡◌, refl, ℕ, ◌+◌, ◌≤◌, List, [], ◌∷◌, Bool, true, false, length, arith}
+use Rattle.std.proofs.Common.{◌≡◌, refl, ◌≤◌, List, [], ◌∷◌, Bool, true, false, length, arith}
 use Rattle.expr_tree.specs.Tree.{Tree, integer, string, symbol, normal, Trees, nil, cons, trees, size, sizes}
 use Rattle.expr_tree.proofs.Callers.{tree_steps}
 use Rattle.semantics.specs.Names.{Names, is_name}

@@ -1,13 +1,13 @@
 -- Where a new rule stands, found from the front.
 --     IsSeeking             the rules before a place are not replaced
 --     IsPassing             a new rule does not stand before this place
-use Rattle.std.proofs.Common.{◌≡◌, ◌∙◌, refl, sym, ap, ℕ, suc, ◌+◌, ◌<◌, ◌≤◌, Bool, true, false, List, [], ◌∷◌, ◌++◌, length, take, drop, get_or, append_assoc, add-one, arith}
+use Rattle.std.proofs.Common.{◌≡◌, ◌∙◌, refl, sym, ap, ℕ, ◌+◌, ◌<◌, ◌≤◌, true, false, List, [], ◌∷◌, ◌++◌, length, take, drop, get_or, append_assoc, add-one, arith}
 use Rattle.std.specs.Prelude.{slice_set}
 use Rattle.std.specs.List.{insert}
 use Rattle.std.specs.Ordering.{is_gt}
 use Rattle.std.specs.declared.cmp.Ordering.{Ordering}
 use Rattle.std.specs.declared.cmp.Ordering.TheVariants.{Less, Equal, Greater}
-use Rattle.std.proofs.lemmas.List.{drop_more, take_more, set_split, drop_all, take_all, append-nil}
+use Rattle.std.proofs.lemmas.List.{drop_more, take_more, set_split, drop_all}
 use Rattle.expr_tree.specs.Order.{text_cmp}
 use Rattle.semantics.specs.Names.{Names}
 use Rattle.semantics.specs.Rule.{Rule, replaces, is_replaced, replace_in, insert_in, key_of}

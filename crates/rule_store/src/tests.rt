@@ -1,3 +1,4 @@
+ghost use Rattle.std.specs.Prelude.{IfOk};
 ghost use Rattle.builtin_names.specs.Named.{HasBuiltins};
 
 use crate::Rules;
@@ -9,7 +10,9 @@ use semantics::Builtin;
 use std::alloc::Global;
 use std::test::Fail;
 
-fn table(alloc: Global) -> Result<Names, Fail> {
+fn table(alloc: Global) -> Result<Names, Fail>
+    ensures { IfOk result (λ names. HasBuiltins names) }
+{
     let none = Items::new(alloc);
     Ok(names_with(alloc, &none)?)
 }

@@ -1,7 +1,6 @@
 -- A row changes its first item, whatever stands behind it.
-use Rattle.std.proofs.Common.{◌≡◌, refl, sym, ap, List, [], ◌∷◌, get_or, length, ◌≤◌, arith, Some, None}
-use Rattle.expr_tree.specs.declared.sym.Sym.{Sym}
-use Rattle.expr_tree.specs.Tree.{Tree, Trees, integer, string, symbol, normal, nil}
+use Rattle.std.proofs.Common.{◌≡◌, sym, ap, List, [], ◌∷◌, get_or, length, ◌≤◌, arith}
+use Rattle.expr_tree.specs.Tree.{Tree, integer, string, symbol, normal}
 use Rattle.semantics.specs.Names.{Names}
 use Rattle.semantics.specs.Definitions.{Shared}
 use Rattle.shared_calls.specs.Access.{changed}

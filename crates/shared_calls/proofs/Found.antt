@@ -1,10 +1,9 @@
 -- A shared symbol among those that the program keeps.
-use Rattle.std.proofs.Common.{◌≡◌, ◌∙◌, refl, sym, ap, ℕ, zero, suc, ◌+◌, ◌<◌, ◌≤◌, List, [], ◌∷◌, ◌++◌, length, map, drop, get_or, arith, Some, None, true, false}
-use Rattle.std.specs.Prelude.{Option, slice_get}
-use Rattle.std.specs.Option.{option_map}
+use Rattle.std.proofs.Common.{◌≡◌, refl, ap, ℕ, zero, suc, ◌<◌, ◌≤◌, List, [], ◌∷◌, length, map, get_or, arith, Some, None}
+use Rattle.std.specs.Prelude.{slice_get}
 use Rattle.std.proofs.lemmas.List.{drop_more, drop_all, map-append, length-map}
 use Rattle.shared_calls.specs.declared.shared.SharedSymbol.{SharedSymbol}
-use Rattle.shared_calls.specs.View.{shared_symbol, share_of}
+use Rattle.shared_calls.specs.View.{shared_symbol}
 
 pub get_there : (xs : List SharedSymbol) (i : ℕ) (x : SharedSymbol) → i < length xs → x ≡ get_or xs i x → Some (shared_symbol x) ≡ slice_get (map shared_symbol xs) i
 get_there [] i x p is = absurd (omega arith)

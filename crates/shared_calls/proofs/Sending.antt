@@ -1,15 +1,15 @@
 -- Accesses are sent.
-use Rattle.std.proofs.Common.{◌≡◌, ◌∙◌, refl, sym, ap, List, Bool, true, false, Some, None}
+use Rattle.std.proofs.Common.{◌≡◌, ◌∙◌, refl, ap, List, Bool, true, false, Some, None}
 use Rattle.std.specs.Prelude.{Option, is_some}
 use Rattle.expr_tree.specs.declared.sym.Sym.{Sym}
 use Rattle.expr_tree.specs.Tree.{Tree, symbol}
 use Rattle.semantics.specs.Definitions.{Share, Shared, Variable, Function}
 use Rattle.semantics.specs.Program.{Prog, Done, Look, Outer, Moded, Mode, Cell, Item, Service, Access}
-use Rattle.semantics.specs.Sections.{unless_access, access_or, accessed, same_share}
+use Rattle.semantics.specs.Sections.{access_or, accessed, same_share}
 use Rattle.semantics.specs.Attempt.{try_rules}
 use Rattle.semantics.specs.Pass.{own_value, marked, built_in}
-use Rattle.semantics.specs.Play.{State, Play, Setting, Evaluator, run, now_used, seen}
-use Rattle.shared_calls.specs.Access.{kind_in, is_shared_as, changed, access_in}
+use Rattle.semantics.specs.Play.{State, Setting, Evaluator, run, now_used, seen}
+use Rattle.shared_calls.specs.Access.{kind_in, is_shared_as}
 use Rattle.shared_calls.specs.Sent.{AccessesAreSent, sent_or}
 
 by_mode : (m : Mode) (set : Setting) (ev : Evaluator) (e : Tree) (p : Prog) (s : State)
