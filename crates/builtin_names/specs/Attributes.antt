@@ -1,6 +1,6 @@
 -- The attributes of a symbol as a list of their names, in the order of the built-in table.
 --     attributes_in
-use Rattle.std.specs.Prelude.{Bool, true, false, List, [], ◌∷◌}
+use Rattle.std.specs.Prelude.{Bool, true, false, [], ◌∷◌}
 use Rattle.expr_tree.specs.declared.attrs.Attrs.{Attrs}
 use Rattle.semantics.specs.declared.builtin.Builtin.{Builtin}
 use Rattle.semantics.specs.Definitions.{Attributes}

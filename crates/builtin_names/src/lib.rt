@@ -9,7 +9,7 @@ mod table;
 #[cfg(test)]
 mod tests;
 
-pub use attributes::{first_attrs, has};
+pub use attributes::first_attrs;
 pub use fault::Fault;
 pub use shapes::{is_call, is_name, items_of, items_under, make, name, truth};
 pub use symbols::{is_known, role_of, rows_are_names, symbol_for};

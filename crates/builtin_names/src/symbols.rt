@@ -18,7 +18,7 @@ pub(crate) fn place_of(row: Builtin) -> usize
 }
 
 /// The row at a place of the table.
-#[tactic(auto, using(crate::proofs::Rows::row_steps))]
+#[tactic(auto)]
 pub(crate) fn row_of_place(place: usize) -> Builtin
     requires { place < 166 }
     ensures { result ≡ get_or rows place Builtin.Plus }
@@ -30,7 +30,7 @@ pub(crate) fn row_of_place(place: usize) -> Builtin
 }
 
 /// The symbol of a row.
-#[tactic(auto, using(crate::proofs::Rows::row_steps))]
+#[tactic(auto)]
 pub fn symbol_for(names: &Names, row: Builtin) -> Sym
     requires names { HasBuiltins names.now }
     ensures symbol { result ≡ known (names_in names.now) row }
@@ -53,8 +53,11 @@ pub fn role_of(names: &Names, symbol: Sym) -> Option<Builtin>
     requires names { HasBuiltins names.now }
     ensures { result ≡ role_of (names_in names.now) symbol }
 {
-    let place = names.row(symbol)?;
-    Some(row_of_place(place))
+    names.texts_are_distinct();
+    match names.row(symbol) {
+        Some(place) => Some(row_of_place(place)),
+        None => None,
+    }
 }
 
 /// Each row stands at one place of the names, and no other place is a row.

@@ -5,7 +5,8 @@ ghost use Rattle.semantics.specs.Builtin.{rows};
 ghost use Rattle.semantics.specs.Texts.{row_text};
 ghost use Rattle.builtin_names.specs.Named.{HasBuiltins};
 
-use case_table::builtins;
+use crate::symbols::row_of_place;
+use case_table::{BUILTINS, name_of};
 use expr_tree::{Text, Texts};
 use item_list::Items;
 use name_table::Names;
@@ -16,8 +17,8 @@ fn row_names(alloc: Global) -> Result<Texts, AllocError>
     ensures { IfOk result (λ texts. texts ≡ map row_text rows) }
 {
     let mut texts = Items::new(alloc);
-    for row in builtins().rows {
-        texts.push(Text::of(alloc, row.name)?)?;
+    for place in 0..BUILTINS {
+        texts.push(Text::of(alloc, name_of(row_of_place(place)))?)?;
     }
     Ok(texts)
 }
@@ -29,5 +30,7 @@ pub fn names_with(alloc: Global, texts: &Texts) -> Result<Names, AllocError>
     ensures known { IfOk result (λ names. HasBuiltins names) }
 {
     let known = row_names(alloc)?;
-    Names::of_texts(alloc, &known, texts)
+    let names = Names::of_texts(alloc, &known, texts)?;
+    names.known_are_kept();
+    Ok(names)
 }

@@ -13,40 +13,40 @@ use Rattle.evaluation_relations.proofs.Relate.{Opt, none, some, All, all_nil, al
 use Rattle.evaluation_relations.proofs.Relation.{Like, int, str, sym, node, LikeList, Faithful, same-like, is_call-like, items-like, make-like, ordered-like}
 
 module _ (S : Sym → Sym → Type 0) where
-  data LikeWorked : Worked → Worked → Type 0 where
+  pub data LikeWorked : Worked → Worked → Type 0 where
     stays : LikeWorked Stays Stays
     gives : {e f : Tree} → Like S e f → LikeWorked (Gives e) (Gives f)
     too_wide : LikeWorked TooWide TooWide
 
-  record LikePart (p q : Part) : Type 0 where
-    number : p.number ≡ q.number
-    rest : Like S p.rest q.rest
+  pub record LikePart (p q : Part) : Type 0 where
+    pub number : p.number ≡ q.number
+    pub rest : Like S p.rest q.rest
 
-  record LikeGathered (g h : Gathered) : Type 0 where
-    whole_part : g.whole_part ≡ h.whole_part
-    parts : All LikePart g.parts h.parts
+  pub record LikeGathered (g h : Gathered) : Type 0 where
+    pub whole_part : g.whole_part ≡ h.whole_part
+    pub parts : All LikePart g.parts h.parts
 
-  numbers-like : {ps qs : List Part} → All LikePart ps qs → numbers_of ps ≡ numbers_of qs
+  pub numbers-like : {ps qs : List Part} → All LikePart ps qs → numbers_of ps ≡ numbers_of qs
   numbers-like all_nil = refl
   numbers-like (all_cons p ps) = rw (p.number, numbers-like ps) refl
 
   module _ (names : Names) (F : Faithful S names) where
-    add_part-like : {p q : Part} {ps qs : List Part} → LikePart p q → All LikePart ps qs → All LikePart (add_part p ps) (add_part q qs)
+    pub add_part-like : {p q : Part} {ps qs : List Part} → LikePart p q → All LikePart ps qs → All LikePart (add_part p ps) (add_part q qs)
     add_part-like p all_nil = all_cons p all_nil
     add_part-like p (all_cons q qs) =
         branch (All LikePart) (same-like S names F p.rest q.rest) (all_cons (record { number = rw (p.number, q.number) refl; rest = q.rest }) qs) (all_cons q (add_part-like p qs))
 
-    written-like : (f : Part → Option Tree) → ((p q : Part) → LikePart p q → Opt (Like S) (f p) (f q)) → {ps qs : List Part} → All LikePart ps qs → LikeList S (written f ps) (written f qs)
+    pub written-like : (f : Part → Option Tree) → ((p q : Part) → LikePart p q → Opt (Like S) (f p) (f q)) → {ps qs : List Part} → All LikePart ps qs → LikeList S (written f ps) (written f qs)
     written-like f each all_nil = all_nil
     written-like f each (all_cons p ps) = case (LikeList S) (each _ _ p) (written-like f each ps) (λ a b one. all_cons one (written-like f each ps))
 
-    assembled-like : (row : Builtin) (unit n : ℤ) {es fs : List Tree} → LikeList S es fs → Like S (assembled names row unit n es) (assembled names row unit n fs)
+    pub assembled-like : (row : Builtin) (unit n : ℤ) {es fs : List Tree} → LikeList S es fs → Like S (assembled names row unit n es) (assembled names row unit n fs)
     assembled-like row unit n all_nil = int
     assembled-like row unit n (all_cons e all_nil) = branch (Like S) refl e (make-like S names F row (all_cons int (all_cons e all_nil)))
     assembled-like row unit n (all_cons e (all_cons f es)) =
         branch (Like S) refl (make-like S names F row (all_cons e (all_cons f es))) (make-like S names F row (all_cons int (all_cons e (all_cons f es))))
 
-    once-like : {e f : Tree} → Like S e f → LikePart (once e) (once f)
+    pub once-like : {e f : Tree} → Like S e f → LikePart (once e) (once f)
     once-like e = record { number = refl; rest = e }
 
     term_in-like : {e f : Tree} {es fs : List Tree} → Like S e f → LikeList S es fs → LikePart (term_in names e es) (term_in names f fs)
@@ -78,7 +78,7 @@ module _ (S : Sym → Sym → Type 0) where
     gather_sum-like g h (all_cons (sym s) l) both = gather_sum-like _ _ l (record { whole_part = both.whole_part; parts = add_part-like (term-like (sym s)) both.parts })
     gather_sum-like g h (all_cons (node k ks) l) both = gather_sum-like _ _ l (record { whole_part = both.whole_part; parts = add_part-like (term-like (node k ks)) both.parts })
 
-    same_range : (m n : ℤ) (ms ns : List ℤ) → m ≡ n → ms ≡ ns → all_in_range (m ∷ ms) ≡ all_in_range (n ∷ ns)
+    pub same_range : (m n : ℤ) (ms ns : List ℤ) → m ≡ n → ms ≡ ns → all_in_range (m ∷ ms) ≡ all_in_range (n ∷ ns)
     same_range m n ms ns e f = rw (e, f) refl
 
     total-like : (g h : Gathered) → LikeGathered g h → LikeWorked (sum_of names g) (sum_of names h)

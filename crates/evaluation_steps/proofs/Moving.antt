@@ -1,15 +1,17 @@
 -- How machines go: their moves are steps of the programs that they stand for.
-use Rattle.std.proofs.Common.{ℕ, Bool, true, false, List, [], ◌∷◌, Option, Some, None, Ok, Err}
+use Rattle.std.proofs.Common.{◌≡◌, sym, subst, ℕ, Bool, true, false, List, [], ◌∷◌, Option, Some, None, Ok, Err}
+use Rattle.expr_tree.specs.declared.sym.Sym.{Sym}
 use Rattle.expr_tree.specs.Tree.{Tree}
-use Rattle.semantics.specs.Program.{Prog, Local}
+use Rattle.semantics.specs.Definitions.{Share}
+use Rattle.semantics.specs.Program.{Prog, Done, Moded, Local}
 use Rattle.semantics.specs.Scoping.{make_all}
 use Rattle.expr_tree.specs.declared.limits.Stop.{Stop}
-use Rattle.semantics.specs.Play.{Setting, State, with_definitions, with_locals, without_locals}
+use Rattle.semantics.specs.Play.{Setting, State, Over, Value, run, eval_at, seen, now_used, with_definitions, with_locals, without_locals}
 use Rattle.evaluation_steps.specs.declared.Halt.{Halt}
-use Rattle.evaluation_steps.specs.Leads.{Step, here}
+use Rattle.evaluation_steps.specs.Leads.{Step, Leads, Went, here}
 use Rattle.evaluation_steps.specs.Words.{Evaluated, Played, Reached, Ran, Led, Counted}
 use Rattle.evaluation_steps.specs.Passed.{made}
-use Rattle.evaluation_steps.specs.Moves.{Asks, Locals, Makes, Results, Moved, Shows, same, fitting, HasStopped, stop, large, passing, turning, Guards, Yields, Fails, Tried}
+use Rattle.evaluation_steps.specs.Moves.{Asks, Locals, Unless, Makes, Results, Moved, Shows, same, fitting, HasStopped, stop, large, passing, turning, Guards, Yields, Fails, Tried}
 use Rattle.evaluation_steps.proofs.Laws.{reached_here, reached_on, reached_played, reached_turn, reached_ask, reached_within, played_turn_out, played_ask_out, played_within_out, played_stop, played_done, played_memory, ran_memory, went_out}
 
 module _ {S : Type 0} {step : Step S} {set : Setting} {n : ℕ} where
@@ -64,6 +66,23 @@ module _ {S : Type 0} {step : Step S} {set : Setting} {n : ℕ} where
   pub played_locals_stop : {b : Bool} {ls : List Local} {e : Tree} {m : ℕ} {h : Halt} {s : S} {st : State} {p : Prog} {rest : Option Tree → Prog} →
       Moved set.limits p (Ok (Locals ls e b)) rest → Counted b set.limits.steps st.steps (Err h) m → Played step set n p s st (Err h) (record st { steps = m }) s
   played_locals_stop {b = b} g c = reached_played (reached_shows g.by) (played_counted_out {b = b} _ c)
+
+  -- a symbol that is not shared, and one that is
+  pub reached_unless : {i : Sym} {e : Tree} {s : S} {st : State} {p : Prog} {rest : Option Tree → Prog} → Moved set.limits p (Ok (Unless i e)) rest →
+      (seen set.names st.definitions i).shared ≡ None → Reached step set n p s st (rest None) st s
+  reached_unless {i = i} {e = e} {s = s} {st = st} {rest = rest} g unshared =
+      reached_on (reached_shows g.by)
+      (record {
+        on = subst (λ o. Leads step s (run set (eval_at set n) (elim o [ None ↦ rest None | Some kind ↦ Moded (λ mode kernel. Done e) ]) st) (run set (eval_at set n) (rest None) st) s) (sym unshared) here;
+      })
+
+  pub played_unless : {i : Sym} {e : Tree} {kind : Share} {s : S} {st : State} {p : Prog} {rest : Option Tree → Prog} → Moved set.limits p (Ok (Unless i e)) rest →
+      (seen set.names st.definitions i).shared ≡ Some kind → Played step set n p s st (Ok e) (now_used st) s
+  played_unless {i = i} {e = e} {kind = kind} {s = s} {st = st} {rest = rest} g is_shared =
+      reached_played (reached_shows g.by)
+      (record {
+        went = subst (λ o. Went step s (run set (eval_at set n) (elim o [ None ↦ rest None | Some kind ↦ Moded (λ mode kernel. Done e) ]) st) (Ok e) (λ v. Over (Value v) (now_used st)) (now_used st) s) (sym is_shared) (record { by = here });
+      })
 
   -- symbols get their values
   pub reached_made : (ls : List Local) {p : Prog} {s : S} {st : State} → Reached step set n (make_all ls p) s st p (with_definitions (made set.names ls st.definitions) st) s

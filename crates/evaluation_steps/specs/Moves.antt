@@ -1,7 +1,8 @@
 -- Machines: what a machine answers is the head of the program that it stands for, and what is left once its question is answered is the rest.
 use Rattle.std.specs.Prelude.{◌≡◌, Bool, true, false, List, Option, Some, None, Result, Ok, Err}
+use Rattle.expr_tree.specs.declared.sym.Sym.{Sym}
 use Rattle.expr_tree.specs.Tree.{Tree}
-use Rattle.semantics.specs.Program.{Prog, Done, Stops, Ask, Within, Turn, Check, Local}
+use Rattle.semantics.specs.Program.{Prog, Done, Stops, Ask, Within, Look, Turn, Check, Moded, Local}
 use Rattle.expr_tree.specs.declared.limits.Stop.{Stop}
 use Rattle.semantics.specs.Scoping.{make_all}
 use Rattle.expr_tree.specs.declared.limits.Limits.{Limits}
@@ -13,6 +14,8 @@ pub data Move : Type 0 where
   -- an expression is evaluated one deeper; the same with locals put by and put back
   Asks : Tree → Bool → Move
   Locals : List Local → Tree → Bool → Move
+  -- it goes on without an answer, unless a symbol is shared; where it is, the expression is the result
+  Unless : Sym → Tree → Move
   -- symbols get their values for good, and the expression is the result
   Makes : List Local → Tree → Move
   Results : Tree → Move
@@ -24,6 +27,7 @@ turning false p = p
 abbrev pub headed : Move → (Option Tree → Prog) → Prog
 headed (Asks e turn) rest = turning turn (Ask e (λ v. rest (Some v)))
 headed (Locals ls e turn) rest = turning turn (Within ls e (λ v. rest (Some v)))
+headed (Unless s e) rest = Look s (λ seen. elim seen.shared [ None ↦ rest None | Some kind ↦ Moded (λ mode kernel. Done e) ])
 headed (Makes ls e) rest = make_all ls (Done e)
 headed (Results e) rest = Done e
 

@@ -8,8 +8,11 @@ ghost use Rattle.semantics.specs.Play.{Reply};
 ghost use Rattle.evaluation_steps.specs.declared.Halt.{Halt};
 ghost use Rattle.evaluation_steps.specs.Explain.{Explained};
 
+mod stops;
+
 use expr_tree::Stop;
 use std::alloc::AllocError;
+pub use stops::{checked, fits, stop_for};
 
 /// Why an evaluation has no value.
 #[derive(Clone, Copy)]

@@ -10,7 +10,7 @@ mod Unique
 mod Steps
 mod Attempts
 mod Views
-mod Closed
+pub mod Closed
 mod Cutting
 mod Tidy
 mod Insides

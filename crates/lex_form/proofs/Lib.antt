@@ -1,1 +1,4 @@
 pub mod Lexing
+pub mod TokenShapes
+pub mod CellLemmas
+pub mod CellSteps

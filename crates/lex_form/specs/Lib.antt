@@ -1,2 +1,4 @@
 pub mod Scans
 pub mod Lexes
+pub mod Shapes
+pub mod Spans

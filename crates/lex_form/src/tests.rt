@@ -1,4 +1,5 @@
-use crate::{Kind, LexFault, lex};
+use crate::{Kind, LexFault, Span, cells, lex, names_of};
+use item_list::Items;
 use std::test::Fail;
 
 #[test]
@@ -12,5 +13,27 @@ fn tokens_stand_before_the_fault(rt: HostRuntime) -> Result<(), Fail> {
         assert_eq!(rt; Some(&token.to), ends.get(at));
     }
     assert_eq!(rt; lexed.fault, Some(LexFault::BadByte(22)));
+    Ok(())
+}
+
+#[test]
+fn cells_are_runs_of_lines(rt: HostRuntime) -> Result<(), Fail> {
+    let spans = cells(rt.alloc(), "a\n \n b\nc\n")?;
+    let wanted = [Span { from: 0, to: 1 }, Span { from: 4, to: 8 }];
+    assert_eq!(rt; spans.as_slice(), wanted.as_slice());
+    Ok(())
+}
+
+#[test]
+fn tokens_spell_names(rt: HostRuntime) -> Result<(), Fail> {
+    let text = "f[x_h] = \"g\"";
+    let lexed = lex(rt.alloc(), text)?;
+    let mut names = Items::new(rt.alloc());
+    names_of(rt.alloc(), text, &lexed.tokens, &mut names)?;
+    let wanted = ["f", "x", "h"];
+    assert_eq!(rt; names.len(), 3);
+    for (at, name) in names.as_slice().iter().enumerate() {
+        assert_eq!(rt; Some(&name.as_str()), wanted.get(at));
+    }
     Ok(())
 }

@@ -42,9 +42,9 @@ finds_runs fit taken [] = rw (append-nil taken) (sym (append-nil (answers (fit t
 finds_runs fit taken (e ∷ es) =
     let first : answers (fit (taken ++ []) (e ∷ es)) ≡ answers (fit taken (e ∷ es)) = ap (λ ts. answers (fit ts (e ∷ es))) (append-nil taken) in
     let same : (t : Taken) → used_run fit (taken ++ e ∷ []) t ≡ used_run fit taken (also_taken e t) =
-      λ t. ap (λ ts. answers (fit ts t.left)) (append_assoc taken (e ∷ []) t.run) in
+    λ t. ap (λ ts. answers (fit ts t.left)) (append_assoc taken (e ∷ []) t.run) in
     let rest : answers (find_runs fit (length es) (taken ++ e ∷ []) es) ≡ joined (map (used_run fit taken) (map (also_taken e) (runs es))) =
-      finds_runs fit (taken ++ e ∷ []) es ∙ (joined-same (used_run fit (taken ++ e ∷ [])) (λ t. used_run fit taken (also_taken e t)) (runs es) same ∙ sym (joined-map (used_run fit taken) (also_taken e) (runs es))) in
+    finds_runs fit (taken ++ e ∷ []) es ∙ (joined-same (used_run fit (taken ++ e ∷ [])) (λ t. used_run fit taken (also_taken e t)) (runs es) same ∙ sym (joined-map (used_run fit taken) (also_taken e) (runs es))) in
     λ i. sym first i ++ rest i
 
 pub finds_choices : (fit : Use) (n : ℕ) (taken left es : List Tree) → answers (find_choices fit n taken left es) ≡ joined (map (used fit taken left) (choices n es))
@@ -52,13 +52,13 @@ finds_choices fit zero taken left es = rw (append-nil taken) (sym (append-nil (a
 finds_choices fit (suc n) taken left [] = refl
 finds_choices fit (suc n) taken left (e ∷ es) =
     let same_taken : (t : Taken) → used fit (taken ++ e ∷ []) left t ≡ used fit taken left (also_taken e t) =
-      λ t. ap (λ ts. answers (fit ts (left ++ t.left))) (append_assoc taken (e ∷ []) t.run) in
+    λ t. ap (λ ts. answers (fit ts (left ++ t.left))) (append_assoc taken (e ∷ []) t.run) in
     let same_left : (t : Taken) → used fit taken (left ++ e ∷ []) t ≡ used fit taken left (also_left e t) =
-      λ t. ap (λ ts. answers (fit (taken ++ t.run) ts)) (append_assoc left (e ∷ []) t.left) in
+    λ t. ap (λ ts. answers (fit (taken ++ t.run) ts)) (append_assoc left (e ∷ []) t.left) in
     let first : answers (find_choices fit n (taken ++ e ∷ []) left es) ≡ joined (map (used fit taken left) (map (also_taken e) (choices n es))) =
-      finds_choices fit n (taken ++ e ∷ []) left es ∙ (joined-same (used fit (taken ++ e ∷ []) left) (λ t. used fit taken left (also_taken e t)) (choices n es) same_taken ∙ sym (joined-map (used fit taken left) (also_taken e) (choices n es))) in
+    finds_choices fit n (taken ++ e ∷ []) left es ∙ (joined-same (used fit (taken ++ e ∷ []) left) (λ t. used fit taken left (also_taken e t)) (choices n es) same_taken ∙ sym (joined-map (used fit taken left) (also_taken e) (choices n es))) in
     let second : answers (find_choices fit (suc n) taken (left ++ e ∷ []) es) ≡ joined (map (used fit taken left) (map (also_left e) (choices (suc n) es))) =
-      finds_choices fit (suc n) taken (left ++ e ∷ []) es ∙ (joined-same (used fit taken (left ++ e ∷ [])) (λ t. used fit taken left (also_left e t)) (choices (suc n) es) same_left ∙ sym (joined-map (used fit taken left) (also_left e) (choices (suc n) es))) in
+    finds_choices fit (suc n) taken (left ++ e ∷ []) es ∙ (joined-same (used fit taken (left ++ e ∷ [])) (λ t. used fit taken left (also_left e t)) (choices (suc n) es) same_left ∙ sym (joined-map (used fit taken left) (also_left e) (choices (suc n) es))) in
     (λ i. first i ++ second i) ∙ sym (joined-append (used fit taken left) (map (also_taken e) (choices n es)) (map (also_left e) (choices (suc n) es)))
 
 -- the sub-lists of a size, and of so many sizes above it
@@ -101,9 +101,9 @@ none_chosen zero f es none = rw (none (record { run = []; left = es }) (omega ar
 none_chosen (suc n) f [] none = refl
 none_chosen (suc n) f (e ∷ es) none =
     let first : joined (map f (map (also_taken e) (choices n es))) ≡ [] =
-      joined-map f (also_taken e) (choices n es) ∙ none_chosen n (λ t. f (also_taken e t)) es (λ t p. none (also_taken e t) (omega (arith, p))) in
+    joined-map f (also_taken e) (choices n es) ∙ none_chosen n (λ t. f (also_taken e t)) es (λ t p. none (also_taken e t) (omega (arith, p))) in
     let second : joined (map f (map (also_left e) (choices (suc n) es))) ≡ [] =
-      joined-map f (also_left e) (choices (suc n) es) ∙ none_chosen (suc n) (λ t. f (also_left e t)) es (λ t p. none (also_left e t) p) in
+    joined-map f (also_left e) (choices (suc n) es) ∙ none_chosen (suc n) (λ t. f (also_left e t)) es (λ t p. none (also_left e t) p) in
     joined-append f (map (also_taken e) (choices n es)) (map (also_left e) (choices (suc n) es)) ∙ (λ i. first i ++ second i)
 
 short_choices : (n : ℕ) (f : Taken → List Found) (es : List Tree) → Short f → joined (map f (choices_up_to (suc n) es)) ≡ joined (map f (choices_up_to 1 es))
@@ -123,9 +123,9 @@ short_runs fit (e ∷ []) short = ap (λ fs. answers (fit [] (e ∷ [])) ++ fs) 
 short_runs fit (e ∷ g ∷ es) short =
     let f : Taken → List Found = λ t. answers (fit t.run t.left) in
     let others : joined (map f (map (also_taken e) (map (also_taken g) (runs es)))) ≡ [] =
-      joined-map f (also_taken e) (map (also_taken g) (runs es))
-      ∙ (joined-map (λ t. f (also_taken e t)) (also_taken g) (runs es)
-      ∙ joined-none (λ t. f (also_taken e (also_taken g t))) (runs es) (λ t. short (also_taken e (also_taken g t)) (omega arith))) in
+    joined-map f (also_taken e) (map (also_taken g) (runs es))
+    ∙ (joined-map (λ t. f (also_taken e t)) (also_taken g) (runs es)
+    ∙ joined-none (λ t. f (also_taken e (also_taken g t))) (runs es) (λ t. short (also_taken e (also_taken g t)) (omega arith))) in
     λ i. answers (fit [] (e ∷ g ∷ es)) ++ sym ((ap (λ fs. answers (fit (e ∷ []) (g ∷ es)) ++ fs) others) ∙ append-nil (answers (fit (e ∷ []) (g ∷ es)))) i
 
 pub finds_ways : (orderless : Bool) (fit : Use) (es : List Tree) → answers (find_ways orderless (length es) fit es) ≡ joined (map (λ t. answers (fit t.run t.left)) (ways orderless es))
@@ -285,10 +285,10 @@ finds_items names A how h (cons p ps) all es next found =
     let way : Taken → List Found = λ t. joined (map (others t.left) (m (match.wrapped names how h p t.run))) in
     let fit : Use = find_first (wraps cs how p) h (record { tree = p; finder = find cs A p }) (find_items cs how h (parts cs A ps)) next found in
     let each : (t : Taken) → answers (fit t.run t.left) ≡ joined (map (answers_of next) (way t)) = λ t.
-      (ap (λ run. answers (find cs A p run (find_items cs how h (parts cs A ps) t.left next) found)) (wrapped_is names how h p t.run)
-      ∙ (all.0 (match.wrapped names how h p t.run) (find_items cs how h (parts cs A ps) t.left next) found
-      ∙ (joined-same (answers_of (find_items cs how h (parts cs A ps) t.left next)) (λ f. joined (map (answers_of next) (others t.left f))) (m (match.wrapped names how h p t.run)) (λ f. finds_items names A how h ps all.1 t.left next f)
-      ∙ sym (joined-joined (answers_of next) (others t.left) (m (match.wrapped names how h p t.run)))))) in
+    (ap (λ run. answers (find cs A p run (find_items cs how h (parts cs A ps) t.left next) found)) (wrapped_is names how h p t.run)
+    ∙ (all.0 (match.wrapped names how h p t.run) (find_items cs how h (parts cs A ps) t.left next) found
+    ∙ (joined-same (answers_of (find_items cs how h (parts cs A ps) t.left next)) (λ f. joined (map (answers_of next) (others t.left f))) (m (match.wrapped names how h p t.run)) (λ f. finds_items names A how h ps all.1 t.left next f)
+    ∙ sym (joined-joined (answers_of next) (others t.left) (m (match.wrapped names how h p t.run)))))) in
     ways_of_pattern names A how h p (find_items cs how h (parts cs A ps)) next found es
     ∙ (joined-same (λ t. answers (fit t.run t.left)) (λ t. joined (map (answers_of next) (way t))) (ways how.orderless es) each
     ∙ sym (joined-joined (answers_of next) way (ways how.orderless es)))
@@ -355,9 +355,9 @@ mutual
       let ordinary : Finder = find_normal cs (how_of A h) h (find cs A h) (parts cs A ps) in
       ap (λ f. answers (find_form f (parts cs A ps) ordinary run next found)) (form_is names h (count ps))
       ∙ finds_form names A (kind names h) ps (all_find names A ps) ordinary
-        (match_normal names (how_of A h) h (matcher names A h) (matchers names A ps))
-        (finds_normal names A (how_of A h) h ps (find cs A h) (matcher names A h) (finds names A h) (all_find names A ps))
-        run next found
+      (match_normal names (how_of A h) h (matcher names A h) (matchers names A ps))
+      (finds_normal names A (how_of A h) h ps (find cs A h) (matcher names A h) (finds names A h) (all_find names A ps))
+      run next found
 
   pub all_find : (names : Names) (A : Sym → Matching) (ps : Trees) → AllFind names A ps
   all_find names A nil = tt

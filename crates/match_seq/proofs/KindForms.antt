@@ -71,9 +71,9 @@ form_is names (normal g es) n = refl
 form_is names (symbol s) n =
     let k : Builtin → Bool = λ row. is_known names row s in
     (λ i. form_chain
-      (known_by names Builtin.Blank s i) (known_by names Builtin.BlankSequence s i) (known_by names Builtin.BlankNullSequence s i)
-      (known_by names Builtin.Pattern s i) (known_by names Builtin.PatternTest s i) (known_by names Builtin.Condition s i)
-      (known_by names Builtin.Alternatives s i) (known_by names Builtin.HoldPattern s i) (known_by names Builtin.Verbatim s i) n)
+    (known_by names Builtin.Blank s i) (known_by names Builtin.BlankSequence s i) (known_by names Builtin.BlankNullSequence s i)
+    (known_by names Builtin.Pattern s i) (known_by names Builtin.PatternTest s i) (known_by names Builtin.Condition s i)
+    (known_by names Builtin.Alternatives s i) (known_by names Builtin.HoldPattern s i) (known_by names Builtin.Verbatim s i) n)
     ∙ chains (k Builtin.Blank) (k Builtin.BlankSequence) (k Builtin.BlankNullSequence) (k Builtin.Pattern) (k Builtin.PatternTest) (k Builtin.Condition) (k Builtin.Alternatives) (k Builtin.HoldPattern) (k Builtin.Verbatim) n
 
 unequal : (m n : ℕ) → m ≢ n → (m == n) ≡ false

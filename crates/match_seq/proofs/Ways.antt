@@ -71,6 +71,9 @@ choices-fork_at fit n taken left xs i e other is = choices-fork fit n taken left
 
 pub ruleset choose_steps = (choices-done, choices-none_at, choices-fork_at)
 pub ruleset part_steps = (take_all, drop_of_length-le)
+
 pub ruleset fill_steps = (form_steps, no_element)
+
 pub ruleset run_steps = (form_steps, runs-fork, runs-last, runs-all)
+
 pub ruleset way_steps = (form_steps, drop_some, drop_none, runs-fork, runs-last, runs-all, sizes-fork, sizes-last, choices-done, choices-none, choices-fork)

@@ -109,7 +109,12 @@ impl Found {
     }
 
     /// Binds a name to a run, where it has no other run already.
-    pub(crate) fn bind(self, alloc: Global, symbol: Sym, run: &Exprs) -> Result<Option<Found>, AllocError>
+    pub(crate) fn bind(
+        self,
+        alloc: Global,
+        symbol: Sym,
+        run: &Exprs,
+    ) -> Result<Option<Found>, AllocError>
         ensures { IfOk result (λ f. option_map found_of f ≡ bind_run symbol run.now (found_of self)) }
     {
         if let Some(old) = run_of(&self.bindings, symbol) {
@@ -118,7 +123,10 @@ impl Found {
             }
             return Ok(None);
         }
-        let Found { mut bindings, guards } = self;
+        let Found {
+            mut bindings,
+            guards,
+        } = self;
         bindings.push((symbol, copy_items(alloc, run)?))?;
         Ok(Some(Found { bindings, guards }))
     }
@@ -127,7 +135,10 @@ impl Found {
     pub(crate) fn guarded(self, more: Guards) -> Result<Found, AllocError>
         ensures { IfOk result (λ f. found_of f ≡ defined.guarded (map guard_of more) (found_of self)) }
     {
-        let Found { bindings, mut guards } = self;
+        let Found {
+            bindings,
+            mut guards,
+        } = self;
         guards.append(more)?;
         Ok(Found { bindings, guards })
     }

@@ -155,10 +155,20 @@ impl Goal {
                 Goal::Fill(level.copy(alloc)?, copy_items(alloc, elements)?)
             }
             Goal::Runs(level, size, end, elements) => {
-                Goal::Runs(level.copy(alloc)?, *size, *end, copy_items(alloc, elements)?)
+                Goal::Runs(
+                    level.copy(alloc)?,
+                    *size,
+                    *end,
+                    copy_items(alloc, elements)?,
+                )
             }
             Goal::Sizes(level, size, end, elements) => {
-                Goal::Sizes(level.copy(alloc)?, *size, *end, copy_items(alloc, elements)?)
+                Goal::Sizes(
+                    level.copy(alloc)?,
+                    *size,
+                    *end,
+                    copy_items(alloc, elements)?,
+                )
             }
             Goal::Choose(level, size, choice) => {
                 Goal::Choose(level.copy(alloc)?, *size, choice.copy(alloc)?)

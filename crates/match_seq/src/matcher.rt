@@ -27,7 +27,6 @@ impl Model for Matcher {
     ghost use Rattle.std.specs.Prelude.{List};
     ghost use Rattle.semantics.specs.Match.{Found};
     ghost use Rattle.match_seq.specs.Goals.{left};
-
     ghost use Rattle.std.specs.Coded.{coded_list};
     ghost use Rattle.match_seq.specs.Code.{coded_found};
 

@@ -157,7 +157,10 @@ impl Setting {
         match found.bind(alloc, symbol, &run)? {
             None => Ok(Turn::One(None)),
             Some(found) => {
-                self.one(Goal::Take(pattern.copy(alloc)?, run), Branch { goals, found })
+                self.one(
+                    Goal::Take(pattern.copy(alloc)?, run),
+                    Branch { goals, found },
+                )
             }
         }
     }

@@ -62,7 +62,12 @@ fn named(alloc: Global, name: u32, blank: u32) -> Result<Expr, Fail> {
 
 /// The matcher of `h[x, y]`, with blanks of a kind, in an expression.
 fn matcher(alloc: Global, head: u32, blank: u32, e: &Expr) -> Result<Matcher, Fail> {
-    let pattern = two(alloc, head, named(alloc, 20, blank)?, named(alloc, 21, blank)?)?;
+    let pattern = two(
+        alloc,
+        head,
+        named(alloc, 20, blank)?,
+        named(alloc, 21, blank)?,
+    )?;
     Ok(Matcher::by(alloc, constructs(), &pattern, e, &FlatAndOrderless)?)
 }
 
@@ -123,7 +128,12 @@ fn choices_come_by_their_positions(rt: HostRuntime) -> Result<(), Fail> {
 // f[x_, x_] in f[1, 2]
 #[test]
 fn equal_names_match_identical_runs(rt: HostRuntime) -> Result<(), Fail> {
-    let pattern = two(rt.alloc(), 10, named(rt.alloc(), 20, 0)?, named(rt.alloc(), 20, 0)?)?;
+    let pattern = two(
+        rt.alloc(),
+        10,
+        named(rt.alloc(), 20, 0)?,
+        named(rt.alloc(), 20, 0)?,
+    )?;
     let e = two(rt.alloc(), 10, Expr::int(1), Expr::int(2))?;
     let mut matcher = Matcher::by(rt.alloc(), constructs(), &pattern, &e, &FlatAndOrderless)?;
     assert!(rt; matcher.next(rt.alloc())?.is_none());

@@ -138,6 +138,13 @@ impl Names {
         let _ = &self.set;
     }
 
+    /// The base of each known name is kept.
+    pub fn known_are_kept(&self)
+        ensures { (row : ℕ) → row < length self.now.known → get_or self.now.known row 0 < length self.now.texts }
+    {
+        let _ = &self.set;
+    }
+
     /// Symbols compare as their names do: by the texts of the bases, then by number.
     pub fn symbols_are_in_the_order_of_names(&self)
         ensures { OrdersByName self.now }

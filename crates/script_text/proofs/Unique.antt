@@ -20,12 +20,12 @@ both_equal Less b e = absurd (subst (λ o. T (is_eq o)) (sym e) tt)
 both_equal Equal b e = (refl, e)
 both_equal Greater b e = absurd (subst (λ o. T (is_eq o)) (sym e) tt)
 
-is_equal : (o : Ordering) → is_eq o ≡ true → o ≡ Equal
+pub is_equal : (o : Ordering) → is_eq o ≡ true → o ≡ Equal
 is_equal Less e = absurd (true≢false (sym e))
 is_equal Equal e = refl
 is_equal Greater e = absurd (true≢false (sym e))
 
-equal_texts : (s t : List ℕ) → text_cmp s t ≡ Equal → s ≡ t
+pub equal_texts : (s t : List ℕ) → text_cmp s t ≡ Equal → s ≡ t
 equal_texts [] [] e = refl
 equal_texts [] (d ∷ t) e = absurd (subst (λ o. T (is_eq o)) (sym e) tt)
 equal_texts (c ∷ s) [] e = absurd (subst (λ o. T (is_eq o)) (sym e) tt)
@@ -33,12 +33,12 @@ equal_texts (c ∷ s) (d ∷ t) e =
     let both = both_equal (nat_cmp c d) (text_cmp s t) e in
     λ i. same_numbers c d both.0 i ∷ equal_texts s t both.1 i
 
-same_text : (t : List ℕ) → text_cmp t t ≡ Equal
+pub same_text : (t : List ℕ) → text_cmp t t ≡ Equal
 same_text [] = refl
 same_text (c ∷ t) = subst (λ o. ordering_then o (text_cmp t t) ≡ Equal) (nat_cmp_is c c Equal refl) (same_text t)
 
 -- a text that stands in the list is found at its place
-found_at : (texts : List (List ℕ)) → AreDistinct texts → (b : ℕ) → b < length texts → place_in texts (get_or texts b []) ≡ b
+pub found_at : (texts : List (List ℕ)) → AreDistinct texts → (b : ℕ) → b < length texts → place_in texts (get_or texts b []) ≡ b
 found_at [] distinct b h = absurd (omega arith)
 found_at (u ∷ us) distinct zero h = subst (λ o. elim (is_eq o) [ true ↦ zero | false ↦ suc (place_in us u) ] ≡ zero) (sym (same_text u)) refl
 found_at (u ∷ us) distinct (suc b) h =

@@ -1,0 +1,4 @@
+pub mod Bounds
+pub mod Threads
+pub mod Orders
+pub mod Wrappers

@@ -1,0 +1,62 @@
+//! Stripping: the outermost `Unevaluated` of each element is taken off.
+ghost use Rattle.std.specs.Prelude.{◌≡◌, IfOk};
+ghost use Rattle.std.specs.Option.{option_map};
+ghost use Rattle.semantics.specs.Steps.{unwrapped, strip, has_wrapper};
+ghost use Rattle.builtin_names.specs.Named.{HasBuiltins, names_in};
+
+use builtin_names::is_name;
+use expr_tree::{Expr, Exprs, Node};
+use item_list::Items;
+use name_table::Names;
+use semantics::Builtin;
+use std::alloc::{AllocError, Global};
+
+#[tactic(auto, using(crate::proofs::Wrappers::wrapper_steps))]
+fn unwrapped<'a>(names: &Names, e: &'a Expr) -> Option<&'a Expr>
+    requires names { HasBuiltins names.now }
+    ensures { option_map (λ x. x.now) result ≡ unwrapped (names_in names.now) e.now }
+{
+    let Node::Normal(head, items) = e.node() else {
+        return None;
+    };
+    match items.as_slice() {
+        [inner] => {
+            if is_name(names, Builtin::Unevaluated, head) {
+                Some(inner)
+            } else {
+                None
+            }
+        }
+        _ => None,
+    }
+}
+
+/// Whether some element is `Unevaluated[x]`.
+pub fn has_wrapper(names: &Names, items: &[Expr]) -> bool
+    requires names { HasBuiltins names.now }
+    ensures { result ≡ has_wrapper (names_in names.now) items.now }
+{
+    for item in items {
+        if unwrapped(names, item).is_some() {
+            return true;
+        }
+    }
+    false
+}
+
+/// The elements, with `x` in the place of each `Unevaluated[x]`.
+#[tactic(auto, using(crate::proofs::Wrappers::none_stripped))]
+pub fn strip(alloc: Global, names: &Names, items: Exprs) -> Result<Exprs, AllocError>
+    requires names { HasBuiltins names.now }
+    ensures { IfOk result (λ r. r ≡ strip (names_in names.now) items) }
+{
+    if !has_wrapper(names, items.as_slice()) {
+        return Ok(items);
+    }
+    let mut stripped = Items::new(alloc);
+    for item in items.as_slice() {
+        let inner = unwrapped(names, item).unwrap_or(item);
+        stripped.push(inner.copy(alloc)?)?;
+    }
+    Ok(stripped)
+}

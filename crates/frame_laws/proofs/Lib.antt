@@ -1,0 +1,15 @@
+pub mod Inside
+pub mod NumberRows
+pub mod ListRows
+pub mod Matching
+pub mod Programs
+pub mod ControlRows
+pub mod ScopeRows
+pub mod FirstSteps
+pub mod ChangeRows
+pub mod ModeRows
+pub mod Rows
+pub mod Passes
+pub mod Agreeing
+pub mod Following
+pub mod Framed

@@ -1,0 +1,4 @@
+mod Stacks
+pub mod Shown
+mod Choosing
+mod Turns

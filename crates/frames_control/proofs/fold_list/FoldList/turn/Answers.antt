@@ -1,0 +1,13 @@
+use Rattle.std.proofs.Common.{refl, [], ◌∷◌}
+use Rattle.frames_control.proofs.Shown.{shown}
+use Rattle.frames_control.proofs.Turns.{applies}
+use Rattle.frames_control.proofs.fold_list.FoldList.turn.Goals as goal
+
+pub returns-in_ok-copy-in-None-clause-moved : goal.returns-in_ok-copy-in-None-clause-moved
+returns-in_ok-copy-in-None-clause-moved c =
+    shown (rw (c.in-None.ensures.0, c.in_ok-copy-in-None.ensures, c.take_reversed.ensures, c.in_ok-push.ensures, c.in_ok-copy.ensures) refl)
+
+pub returns-in_ok-two-in-Some-clause-moved : goal.returns-in_ok-two-in-Some-clause-moved
+returns-in_ok-two-in-Some-clause-moved c =
+    applies c.args.self.now.function c.in_ok-two-in-Some.field-0 (c.args.value ∷ c.in-Some.element ∷ []) c.in_ok-two-in-Some.ensures c.apply.ensures
+    (rw (c.in-Some.ensures, c.in_ok-push.ensures, c.in_ok-copy.ensures) refl)

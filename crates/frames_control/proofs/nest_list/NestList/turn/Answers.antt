@@ -1,0 +1,13 @@
+use Rattle.std.proofs.Common.{refl, [], ◌∷◌}
+use Rattle.frames_control.proofs.Shown.{shown}
+use Rattle.frames_control.proofs.Turns.{applies}
+use Rattle.frames_control.proofs.nest_list.NestList.turn.Goals as goal
+
+pub returns-then-not-take-clause-moved : goal.returns-then-not-take-clause-moved
+returns-then-not-take-clause-moved c =
+    shown (rw (c.if-not-take.ensures.0, c.name.ensures, c.take_reversed.ensures, c.in_ok-push.ensures, c.in_ok-copy.ensures) refl)
+
+pub returns-clause-moved : goal.returns-clause-moved
+returns-clause-moved c =
+    applies c.args.self.now.function c.in_ok-one.field-0 (c.args.value ∷ []) c.in_ok-one.ensures c.apply.ensures
+    (rw (c.if-not-take.ensures, c.in_ok-push.ensures, c.in_ok-copy.ensures) refl)

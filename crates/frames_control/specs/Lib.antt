@@ -1,0 +1,5 @@
+pub mod Turns
+pub mod Moving
+pub mod Choices
+pub mod Turning
+pub mod Frames

@@ -1,0 +1,4 @@
+pub mod Readings
+pub mod Machines
+pub mod Questions
+pub mod Withs

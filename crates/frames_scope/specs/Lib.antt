@@ -1,0 +1,4 @@
+pub mod Reading
+pub mod Moving
+pub mod Left
+pub mod Asked

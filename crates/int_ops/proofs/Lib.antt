@@ -1,0 +1,5 @@
+mod Ranges
+mod Rounding
+mod Common
+mod Growth
+mod Turns

@@ -1,0 +1,20 @@
+//! Exact arithmetic on integers of 128 bits. What passes them is refused.
+#![tactic(auto)]
+
+mod arithmetic;
+mod division;
+mod divisors;
+mod out_of_range;
+mod powers;
+mod product;
+mod sum;
+#[cfg(test)]
+mod tests;
+
+pub use arithmetic::{absolute, add, is_even, mul, sign};
+pub use division::{modulo, quotient};
+pub use divisors::{common_divisor, gcd};
+pub use out_of_range::OutOfRange;
+pub use powers::{factorial, power};
+pub use product::Product;
+pub use sum::{Sum, total};

@@ -1,0 +1,3 @@
+pub mod Wrappers
+pub mod Ups
+pub mod Shapes

@@ -1,0 +1,14 @@
+//! Definitions of symbols: what an assignment is attached to, why one is refused, and the definition after.
+#![tactic(auto)]
+
+mod definition;
+mod left_side;
+mod refusal;
+mod targets;
+#[cfg(test)]
+mod tests;
+
+pub use definition::Definition;
+pub use left_side::inner;
+pub use refusal::{Why, refusal_by_shape};
+pub use targets::{Form, Place, Target, Targets, asked_symbols, item_symbols, targets_of};

@@ -1,0 +1,7 @@
+mod LastOf
+mod Mapped
+mod Holds
+mod Counted
+mod Joined
+mod Flattened
+mod Distinct

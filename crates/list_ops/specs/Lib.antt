@@ -1,0 +1,6 @@
+pub mod Holds
+pub mod Counted
+pub mod Under
+pub mod Flat
+pub mod Repeats
+pub mod Rows

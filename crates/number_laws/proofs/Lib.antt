@@ -1,0 +1,4 @@
+pub mod Sizes
+pub mod Calm
+pub mod Thrift
+pub mod Paying

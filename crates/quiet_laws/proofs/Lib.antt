@@ -1,0 +1,4 @@
+pub mod Installed
+pub mod Quieted
+pub mod Batched
+pub mod Delivered

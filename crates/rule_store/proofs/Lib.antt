@@ -1,0 +1,4 @@
+pub mod Marked
+pub mod Counts
+pub mod Places
+pub mod Removed

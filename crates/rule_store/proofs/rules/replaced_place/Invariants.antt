@@ -1,0 +1,6 @@
+use Rattle.builtin_names.specs.Named.{names_in}
+use Rattle.rule_store.proofs.Places.{IsSeeking}
+use Rattle.rule_store.proofs.rules.replaced_place.Given as goal
+
+abbrev pub invariant-loop-at : goal.invariant-loop-at
+invariant-loop-at l = IsSeeking (names_in l.names) l.new l.rules l.at

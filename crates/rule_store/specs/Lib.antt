@@ -1,0 +1,4 @@
+pub mod Marks
+pub mod Keys
+pub mod Code
+pub mod Places

@@ -1,0 +1,13 @@
+//! The rules of a symbol, in the order in which they are tried.
+#![tactic(auto)]
+
+mod key;
+mod marks;
+mod rule;
+mod rules;
+#[cfg(test)]
+mod tests;
+
+pub use key::Key;
+pub use rule::{Rule, condition_of, result_of};
+pub use rules::Rules;

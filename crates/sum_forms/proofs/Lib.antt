@@ -1,0 +1,5 @@
+mod Shapes
+mod Order
+mod Rests
+mod Lists
+mod Factors

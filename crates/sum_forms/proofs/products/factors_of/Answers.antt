@@ -1,0 +1,19 @@
+use Rattle.std.proofs.Common.{rules, ◌≡◌, ◌+◌, ◌∷◌, ◌∙◌, Err, sym, subst, drop, add-one}
+use Rattle.semantics.specs.Numbers.{write_factor, written}
+use Rattle.builtin_names.specs.Named.{names_in}
+use Rattle.sum_forms.specs.Planned.{Written, with_one}
+use Rattle.sum_forms.proofs.Rests.{cut}
+use Rattle.sum_forms.proofs.Lists.{written-whole}
+use Rattle.sum_forms.proofs.Factors.{written-next}
+use Rattle.sum_forms.proofs.products.factors_of.Goals as goal
+
+pub returns-in-Err : goal.returns-in-Err
+returns-in-Err c =
+    let names = names_in c.args.names.now in
+    let groups = c.args.groups.now in
+    let i = c.loop-group.group-index in
+    let done = c.loop-group.invariant.done in
+    let next : drop i groups ≡ c.group-item.result ∷ drop (i + 1) groups = rw (add-one i) (cut groups i c.group-item.result c.loop-group-test.true c.group-item.is).0 in
+    let failed : Written (with_one done (write_factor names c.group-item.result)) (Err c.in-Err.fault) = subst (Written (with_one done (write_factor names c.group-item.result))) c.in-Err.is (c.with_factor.ensures done c.loop-group.invariant.plans) in
+    written-whole (with_one done (write_factor names c.group-item.result)) (written (write_factor names) (drop (i + 1) groups)) (written (write_factor names) groups) c.in-Err.fault
+    (written-next names done c.group-item.result (drop (i + 1) groups) (drop i groups) (written (write_factor names) groups) next c.loop-group.invariant.whole) failed

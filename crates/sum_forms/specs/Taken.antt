@@ -1,0 +1,12 @@
+-- One element more of a product.
+--     Took                  the product so far stands for another, and the elements that are left give the same
+use Rattle.std.specs.Prelude.{◌≡◌, ℤ, List, ◌∷◌}
+use Rattle.expr_tree.specs.Tree.{Tree}
+use Rattle.semantics.specs.Names.{Names}
+use Rattle.semantics.specs.Numbers.{Part, gather_product}
+use Rattle.int_ops.specs.Products.{Kept, Stands}
+
+pub record Took (names : Names) (e : Tree) (z : ℤ) (before : List Part) (whole : Kept) (after : List Part) : Type 0 where
+  pub part : ℤ
+  pub stands : Stands whole part
+  pub rest : (es : List Tree) → gather_product names (e ∷ es) (record { whole_part = z; parts = before }) ≡ gather_product names es (record { whole_part = part; parts = after })

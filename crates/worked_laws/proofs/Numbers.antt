@@ -1,0 +1,95 @@
+-- Module numbers.
+use Rattle.std.proofs.Common.{◌≡◌, refl, true, [], ◌∷◌}
+use Rattle.expr_tree.specs.Tree.{Tree}
+use Rattle.expr_tree.specs.declared.limits.Limits.{Limits}
+use Rattle.expr_tree.specs.declared.limits.Stop.{Stop}
+use Rattle.semantics.specs.declared.builtin.Builtin.{Builtin}
+use Rattle.semantics.specs.Definitions.{Definitions, empty}
+use Rattle.semantics.specs.Program.{Call, Request}
+use Rattle.semantics.specs.Play.{Reply}
+use Rattle.semantics.specs.Eval.{Evaluation, eval}
+use Rattle.semantics.specs.Table.{row, worked}
+use Rattle.worked_rows.specs.Sample.{in_cell, usual, equals, x', y', int, list, of, plus, stopped, symbol_of_row, value}
+
+-- Module[{x = Module[{y = 1}, y]}, x + x]: two Modules
+abbrev two : Tree
+two = of Builtin.Module (list (equals x' (of Builtin.Module (list (equals y' (int 1) ∷ []) ∷ y' ∷ [])) ∷ []) ∷ plus x' x' ∷ [])
+
+abbrev ended : Evaluation
+ended = eval (in_cell usual) empty two []
+
+value_of_two : ended.outcome ≡ value (int 2)
+unfolding eval row worked
+value_of_two = refl
+
+-- from 1 to 3, in 6 steps
+numbers_of_two : ended.definitions.module_number ≡ 3
+unfolding eval row worked
+numbers_of_two = refl
+
+steps_of_two : ended.steps ≡ 6
+unfolding eval row worked
+steps_of_two = refl
+
+-- the same with a third one inside, and three nested evaluations: where it stops two numbers are taken, and no step
+abbrev few : Limits
+few = record { recursion = 3; iteration = 4096; steps = 1000000; size = 4000000; depth = 512 }
+
+abbrev stops : Evaluation
+stops = eval (in_cell few) empty (of Builtin.Module (list (equals x' (of Builtin.Module (list (equals y' two ∷ []) ∷ y' ∷ [])) ∷ []) ∷ x' ∷ [])) []
+
+stops_at_recursion : stops.outcome ≡ stopped Stop.Recursion
+unfolding eval row worked
+stops_at_recursion = refl
+
+numbers_at_the_stop : stops.definitions.module_number ≡ 3
+unfolding eval row worked
+numbers_at_the_stop = refl
+
+steps_at_the_stop : stops.steps ≡ 0
+unfolding eval row worked
+steps_at_the_stop = refl
+
+-- Print[] makes a call, and `used` is true: the number after it is that of the definitions after the call, whatever it is
+abbrev called : Evaluation
+called =
+    eval (in_cell usual) empty (of Builtin.Print [])
+    (record { call = Call.Sends (Request.Print []); reply = Reply.Replied (symbol_of_row Builtin.Null); after = record empty { module_number = 1000 } } ∷ [])
+
+numbers_after_a_call : called.definitions.module_number ≡ 1000
+unfolding eval row worked
+numbers_after_a_call = refl
+
+used_after_a_call : called.used ≡ true
+unfolding eval row worked
+used_after_a_call = refl
+
+value_after_a_call : called.outcome ≡ value (symbol_of_row Builtin.Null)
+unfolding eval row worked
+value_after_a_call = refl
+
+-- a pass that takes a number may give the expression itself, where Module does not hold its elements and x is Unevaluated[Module[{y}, x]]
+abbrev itself : Tree
+itself = of Builtin.Module (list (y' ∷ []) ∷ x' ∷ [])
+
+abbrev after : Definitions → Tree → Definitions
+after d e = (eval (in_cell usual) d e []).definitions
+
+abbrev not_held : Definitions
+not_held =
+    after (after (after empty (of Builtin.Unprotect (symbol_of_row Builtin.Module ∷ [])))
+    (of Builtin.ClearAttributes (symbol_of_row Builtin.Module ∷ symbol_of_row Builtin.HoldAll ∷ [])))
+    (of Builtin.SetDelayed (x' ∷ of Builtin.Unevaluated (of Builtin.Unevaluated (itself ∷ []) ∷ []) ∷ []))
+
+gives_itself : (eval (in_cell usual) not_held itself []).outcome ≡ value itself
+unfolding eval row worked
+gives_itself = refl
+
+-- one number, and the step of the element that grew
+number_of_itself : (eval (in_cell usual) not_held itself []).definitions.module_number ≡ 2
+unfolding eval row worked
+number_of_itself = refl
+
+steps_of_itself : (eval (in_cell usual) not_held itself []).steps ≡ 1
+unfolding eval row worked
+steps_of_itself = refl
