@@ -3,7 +3,7 @@ use Rattle.std.proofs.Common.{◌≡◌, ◌≢◌, ℕ, zero, suc, ◌+◌, ◌
 use Rattle.expr_tree.specs.Tree.{Tree}
 use Rattle.semantics.specs.Match.{Found, Matching}
 use Rattle.match_seq.specs.declared.constructs.Constructs.{Constructs}
-use Rattle.match_seq.specs.Search.{Search, step, dead, fork, Use, Next, find_runs, find_sizes, find_choices, find_items}
+use Rattle.match_seq.specs.Search.{step, dead, fork, Use, Next, find_runs, find_sizes, find_choices, find_items}
 use Rattle.match_seq.proofs.Steps.{form_steps}
 
 pub drop_some : (xs : List Tree) (i : ℕ) (x : Tree) → slice_get xs i ≡ Some x → drop i xs ≡ x ∷ drop (i + 1) xs
@@ -70,6 +70,7 @@ pub choices-fork_at : (fit : Use) (n : ℕ) (taken left xs : List Tree) (i : ℕ
 choices-fork_at fit n taken left xs i e other is = choices-fork fit n taken left (drop i xs) (drop (i + 1) xs) e other (drop_some xs i e is)
 
 pub ruleset choose_steps = (choices-done, choices-none_at, choices-fork_at)
+
 pub ruleset part_steps = (take_all, drop_of_length-le)
 
 pub ruleset fill_steps = (form_steps, no_element)

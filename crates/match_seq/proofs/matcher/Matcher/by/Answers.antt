@@ -7,4 +7,4 @@ pub returns : goal.returns
 returns g c = λ names e.
     c.in_ok-stack.ensures
     ∙ find-matches_told names (λ s. matching (g.A.AttrSource.told c.args.attrs.now s)) c.args.pattern.now c.args.subject.now
-      c.in_ok-setting.setting.constructs c.in_ok-setting.setting.hows (c.in_ok-setting.ensures.constructs ∙ e) c.in_ok-setting.ensures.hows
+    c.in_ok-setting.setting.constructs c.in_ok-setting.setting.hows (c.in_ok-setting.ensures.constructs ∙ e) c.in_ok-setting.ensures.hows
