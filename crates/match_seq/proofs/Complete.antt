@@ -1,11 +1,11 @@
 -- The search of a pattern has the answers that the definition lists, in its order.
-use Rattle.std.proofs.Common.{◌≡◌, ◌≢◌, ℕ, zero, suc, ◌+◌, List, [], ◌∷◌, ◌++◌, map, length, Bool, true, false, ◌&&◌, ◌==◌, leb, ltb, None, Some, Option, if◌then◌else◌, append_assoc, append-nil, refl, ap, sym, ◌∙◌, arith, ne_eqb, lt-ltb, ◌≤◌}
+use Rattle.std.proofs.Common.{◌≡◌, ℕ, zero, suc, ◌+◌, List, [], ◌∷◌, ◌++◌, map, length, Bool, true, false, ◌&&◌, ◌==◌, ltb, None, Some, Option, if◌then◌else◌, append_assoc, append-nil, refl, ap, sym, ◌∙◌, arith, ne_eqb, lt-ltb, ◌≤◌}
 use Rattle.expr_tree.specs.declared.sym.Sym.{Sym}
-use Rattle.expr_tree.specs.Tree.{Tree, integer, string, symbol, normal, Trees, nil, cons, elements, call, count}
+use Rattle.expr_tree.specs.Tree.{Tree, integer, string, symbol, normal, Trees, nil, cons, elements, count}
 use Rattle.expr_tree.specs.Substitution.{value_of}
 use Rattle.semantics.specs.Match as match
 use Rattle.semantics.specs.Match.{Guard, Test, Cond, Found, Matching, Matcher, Element, Taken, also_taken, also_left, runs, choices, choices_up_to, ways, joined, same_run, have_head, guarded, when, bind, literal, match_items, match_normal, match_any, match_named, how_of, Kind, blank, sequence, null_sequence, pattern, test, condition, alternatives, hold, verbatim, other, kind, construct, matcher, matchers, matches, nothing_found}
-use Rattle.match_seq.specs.Search.{Search, dead, answer, step, fork, answers, Next, Finder, Part, Use, go_on, go_with, find_literal, bound, find_bound, find_runs, find_choices, find_sizes, find_ways, find_first, find_items, find_normal, find_any, find_named, find_form, adding, find, parts, wraps, most, short_form, is_short, first_is_short, second_is_short, stays_short}
+use Rattle.match_seq.specs.Search.{answer, answers, Next, Finder, Part, Use, go_on, go_with, find_literal, bound, find_runs, find_choices, find_sizes, find_ways, find_first, find_items, find_normal, find_any, find_named, find_form, adding, find, parts, wraps, most, short_form, is_short, first_is_short, second_is_short, stays_short}
 use Rattle.semantics.specs.Names.{Names}
 use Rattle.expr_tree.specs.Order.{same}
 use Rattle.match_seq.specs.declared.constructs.Constructs.{Constructs}

@@ -1,5 +1,5 @@
 -- The form of a pattern follows from its kind and the number of its items.
-use Rattle.std.proofs.Common.{◌≡◌, ◌≢◌, ℕ, zero, suc, ◌+◌, List, [], ◌∷◌, length, Bool, true, false, ◌&&◌, ◌==◌, leb, ltb, if◌then◌else◌, refl, ap, sym, ◌∙◌, arith, eqb, ne_eqb, lt-ltb, leb-true, ◌<◌, ◌≤◌}
+use Rattle.std.proofs.Common.{◌≡◌, ◌≢◌, ℕ, zero, suc, ◌+◌, List, [], ◌∷◌, length, Bool, true, false, ◌&&◌, ◌==◌, leb, ltb, if◌then◌else◌, refl, ap, sym, ◌∙◌, arith, ne_eqb, lt-ltb, leb-true, ◌<◌, ◌≤◌}
 use Rattle.expr_tree.specs.declared.sym.Sym.{Sym}
 use Rattle.expr_tree.specs.Same.{symbol_eq}
 use Rattle.expr_tree.specs.Tree.{Tree, integer, string, symbol, normal, Trees, nil, cons, call, count}
@@ -7,10 +7,9 @@ use Rattle.semantics.specs.declared.builtin.Builtin.{Builtin}
 use Rattle.semantics.specs.Names.{Names, known, is_known}
 use Rattle.semantics.specs.Match as match
 use Rattle.semantics.specs.Match.{Kind, blank, sequence, null_sequence, pattern, test, condition, alternatives, hold, verbatim, other, kind, single_by, Matching}
-use Rattle.match_seq.specs.declared.constructs.Constructs.{Constructs}
 use Rattle.match_seq.specs.declared.constructs.Form.{Form}
 use Rattle.match_seq.specs.declared.constructs.Form.TheVariants as form
-use Rattle.match_seq.specs.Forms.{zero_or_one, only_one, only_two, form_under, form_of}
+use Rattle.match_seq.specs.Forms.{zero_or_one, only_one, only_two, form_of}
 use Rattle.match_seq.specs.Origin.{constructs_of}
 use Rattle.match_seq.specs.Search.{single_form, is_single, first_is_single, second_is_single, wrapped, wraps}
 

@@ -1,5 +1,5 @@
 -- The item at a place, and what stands behind it.
-use Rattle.std.proofs.Common.{◌≡◌, ◌≢◌, ℕ, zero, suc, ◌+◌, ◌<◌, ◌≤◌, List, [], ◌∷◌, ◌++◌, map, length, drop, Bool, true, false, ◌&&◌, slice_get, Option, Some, None, refl, ap, sym, ◌∙◌, arith, add-one}
+use Rattle.std.proofs.Common.{◌≡◌, ◌≢◌, ℕ, zero, suc, ◌+◌, ◌<◌, List, [], ◌∷◌, length, drop, Bool, true, false, ◌&&◌, slice_get, Some, None, refl, ◌∙◌, arith, add-one}
 use Rattle.expr_tree.specs.Tree.{Tree, integer, string, symbol, normal, trees, nil, cons}
 use Rattle.expr_tree.specs.Order.{same}
 use Rattle.semantics.specs.Match.{same_run, have_head}

@@ -1,6 +1,5 @@
 -- Stacks of branches.
 use Rattle.std.proofs.Common.{◌≡◌, ℕ, ◌+◌, ◌<◌, List, [], ◌∷◌, ◌++◌, append_assoc, append-nil, refl, ap, sym, ◌∙◌, arith}
-use Rattle.semantics.specs.Match as match
 use Rattle.match_seq.specs.declared.setting.Setting.{Setting}
 use Rattle.match_seq.specs.declared.goal.Branch.{Branch}
 use Rattle.match_seq.specs.Search.{answers, steps}

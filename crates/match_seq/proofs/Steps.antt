@@ -1,5 +1,5 @@
 -- Goals that are added.
-use Rattle.std.proofs.Common.{◌≡◌, ◌≢◌, length, List, [], ◌∷◌, ◌++◌, map, refl, ap, sym, ◌∙◌}
+use Rattle.std.proofs.Common.{◌≡◌, ◌≢◌, length, List, [], ◌∷◌, ◌++◌, refl, ◌∙◌}
 use Rattle.match_seq.specs.declared.setting.Setting.{Setting}
 use Rattle.match_seq.specs.declared.goal.Goal.{Goal}
 use Rattle.expr_tree.specs.Tree.{Tree, integer, string, symbol, normal, trees}

@@ -12,7 +12,7 @@ use Rattle.semantics.specs.Match.{Matching, how_of, matches, nothing_found}
 use Rattle.match_seq.specs.declared.constructs.Constructs.{Constructs}
 use Rattle.match_seq.specs.declared.setting.How.{How}
 use Rattle.match_seq.specs.Forms.{form_of}
-use Rattle.match_seq.specs.Search.{Finder, Part, answer, answers, find_form, find_normal, find, parts}
+use Rattle.match_seq.specs.Search.{answer, answers, find_form, find_normal, find, parts}
 use Rattle.match_seq.specs.Goals.{told, matching_of}
 use Rattle.match_seq.specs.Heads.{heads, heads_of, how_told, told_of}
 use Rattle.match_seq.specs.Origin.{constructs_of}

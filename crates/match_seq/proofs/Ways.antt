@@ -3,7 +3,7 @@ use Rattle.std.proofs.Common.{◌≡◌, ◌≢◌, ℕ, zero, suc, ◌+◌, ◌
 use Rattle.expr_tree.specs.Tree.{Tree}
 use Rattle.semantics.specs.Match.{Found, Matching}
 use Rattle.match_seq.specs.declared.constructs.Constructs.{Constructs}
-use Rattle.match_seq.specs.Search.{Search, step, dead, fork, Use, Next, find_runs, find_sizes, find_choices, find_items}
+use Rattle.match_seq.specs.Search.{step, dead, fork, Use, Next, find_runs, find_sizes, find_choices, find_items}
 use Rattle.match_seq.proofs.Steps.{form_steps}
 
 pub drop_some : (xs : List Tree) (i : ℕ) (x : Tree) → slice_get xs i ≡ Some x → drop i xs ≡ x ∷ drop (i + 1) xs
@@ -62,6 +62,14 @@ choices-fork fit zero taken left es fs e other is = absurd (other refl)
 choices-fork fit (suc n) taken left es fs e other is =
     let m : suc n - 1 ≡ n = omega arith in
     rw (is, m) refl
+
+pub choices-none_at : (fit : Use) (n : ℕ) (taken left xs : List Tree) (i : ℕ) → n ≢ 0 → slice_get xs i ≡ None → find_choices fit n taken left (drop i xs) ≡ step dead
+choices-none_at fit n taken left xs i other e = choices-none fit n taken left (drop i xs) other (drop_none xs i e)
+
+pub choices-fork_at : (fit : Use) (n : ℕ) (taken left xs : List Tree) (i : ℕ) (e : Tree) → n ≢ 0 → slice_get xs i ≡ Some e → find_choices fit n taken left (drop i xs) ≡ fork (find_choices fit (n - 1) (taken ++ e ∷ []) left (drop (i + 1) xs)) (find_choices fit n taken (left ++ e ∷ []) (drop (i + 1) xs))
+choices-fork_at fit n taken left xs i e other is = choices-fork fit n taken left (drop i xs) (drop (i + 1) xs) e other (drop_some xs i e is)
+
+pub ruleset choose_steps = (choices-done, choices-none_at, choices-fork_at)
 
 pub ruleset part_steps = (take_all, drop_of_length-le)
 

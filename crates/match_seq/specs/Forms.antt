@@ -1,6 +1,6 @@
 -- What a normal pattern asks for.
 --     form_of               by its head and the number of its items
-use Rattle.std.specs.Prelude.{ℕ, ◌==◌, Bool, if◌then◌else◌}
+use Rattle.std.specs.Prelude.{ℕ, ◌==◌, if◌then◌else◌}
 use Rattle.expr_tree.specs.declared.sym.Sym.{Sym}
 use Rattle.expr_tree.specs.Same.{symbol_eq}
 use Rattle.expr_tree.specs.Tree.{Tree, symbol}

@@ -2,7 +2,7 @@
 --     matching              Flat and Orderless among attributes
 --     heads                 the symbols that are heads in a pattern
 --     told_of               these symbols, with what is told of them
-use Rattle.std.specs.Prelude.{List, [], ◌∷◌, ◌++◌, map}
+use Rattle.std.specs.Prelude.{List, [], ◌++◌, map}
 use Rattle.expr_tree.specs.declared.sym.Sym.{Sym}
 use Rattle.expr_tree.specs.declared.attrs.Attrs.{Attrs}
 use Rattle.expr_tree.specs.Tree.{Tree, integer, string, symbol, normal, Trees, nil, cons}

@@ -2,7 +2,7 @@
 --     Search                a search that has ended, with or without an answer, or that goes on, in one way or in two
 --     answers, steps        its answers, from left to right; the number of its steps
 --     find                  the search of a pattern in a run; what was found so far goes on with `next`
-use Rattle.std.specs.Prelude.{ℕ, zero, suc, ◌+◌, List, [], ◌∷◌, ◌++◌, map, length, Bool, true, false, ◌&&◌, ◌==◌, leb, ltb, Option, None, Some, if◌then◌else◌}
+use Rattle.std.specs.Prelude.{ℕ, zero, suc, ◌+◌, List, [], ◌∷◌, ◌++◌, map, length, Bool, true, false, ◌&&◌, ◌==◌, ltb, Option, None, Some, if◌then◌else◌}
 use Rattle.expr_tree.specs.declared.sym.Sym.{Sym}
 use Rattle.expr_tree.specs.Tree.{Tree, integer, string, symbol, normal, Trees, nil, cons, elements, call, count}
 use Rattle.expr_tree.specs.Substitution.{value_of}

@@ -1,6 +1,6 @@
 // Sub-lists of elements, by size and then by positions.
-ghost use Rattle.std.specs.Prelude.{◌≡◌, ◌∷◌, [], ◌++◌, length, drop, IfOk};
-ghost use Rattle.match_seq.specs.Search.{find_choices, step};
+ghost use Rattle.std.specs.Prelude.{◌≡◌, ◌<◌, ◌-◌, ◌∷◌, [], ◌++◌, length, drop, IfOk};
+ghost use Rattle.match_seq.specs.Search.{find_choices, step, fork};
 ghost use Rattle.match_seq.specs.Goals.{found_of, use_level, reach, rest, branch, after};
 ghost use Rattle.match_seq.specs.declared.goal.Goal.TheVariants as goal;
 
@@ -85,7 +85,25 @@ impl Setting {
         Ok(Turn::One(made))
     }
 
-    #[tactic(auto, using(crate::proofs::Ways::way_steps))]
+    /// The branch that takes one element more, and the one that leaves it.
+    fn forked(
+        &self,
+        alloc: Global,
+        level: Level,
+        size: usize,
+        with: Choice,
+        without: Choice,
+        onward: Branch,
+    ) -> Result<Turn, AllocError>
+        requires { 0 < size }
+        ensures { IfOk result (λ t. after self.now t ≡ fork (find_choices (use_level self.now level (rest self.now onward) (found_of onward.found)) (size - 1) with.taken with.left (drop with.at with.elements)) (find_choices (use_level self.now level (rest self.now onward) (found_of onward.found)) size without.taken without.left (drop without.at without.elements))) }
+    {
+        let first = self.copied_choose(alloc, &level, size - 1, with, &onward)?;
+        let later = self.before(Goal::Choose(level, size, without), onward)?;
+        Ok(Turn::Two(Some(first), later))
+    }
+
+    #[tactic(auto, using(crate::proofs::Ways::choose_steps))]
     pub(crate) fn choose(
         &self,
         alloc: Global,
@@ -103,11 +121,9 @@ impl Setting {
         let Some(next) = choice.elements.get(choice.at) else {
             return Ok(Turn::One(None));
         };
-        let (taken, left) = (next.copy(alloc)?, next.copy(alloc)?);
-        let with = choice.copy(alloc)?.taking(taken)?;
+        let with = choice.taking(alloc, next)?;
+        let left = next.copy(alloc)?;
         let without = choice.leaving(left)?;
-        let first = self.copied_choose(alloc, &level, size - 1, with, &onward)?;
-        let later = self.before(Goal::Choose(level, size, without), onward)?;
-        Ok(Turn::Two(Some(first), later))
+        self.forked(alloc, level, size, with, without, onward)
     }
 }

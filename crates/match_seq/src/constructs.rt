@@ -1,7 +1,12 @@
 ghost use Rattle.std.specs.Prelude.{◌≡◌};
+ghost use Rattle.builtin_names.specs.Named.{HasBuiltins, names_in};
+ghost use Rattle.match_seq.specs.Origin.{constructs_of};
 ghost use Rattle.match_seq.specs.Forms.{zero_or_one, only_one, only_two, form_under, form_of};
 
+use builtin_names::symbol_for;
 use expr_tree::{Expr, Node, Sym};
+use name_table::Names;
+use semantics::Builtin;
 
 /// The symbols of the constructs of patterns.
 #[derive(Clone, Copy)]
@@ -60,6 +65,24 @@ fn only_two(count: usize, two: Form) -> Form
 }
 
 impl Constructs {
+    /// The symbols of the constructs in a table of names.
+    pub(crate) fn of(names: &Names) -> Constructs
+        requires names { HasBuiltins names.now }
+        ensures { result ≡ constructs_of (names_in names.now) }
+    {
+        Constructs {
+            blank: symbol_for(names, Builtin::Blank),
+            sequence: symbol_for(names, Builtin::BlankSequence),
+            null_sequence: symbol_for(names, Builtin::BlankNullSequence),
+            pattern: symbol_for(names, Builtin::Pattern),
+            test: symbol_for(names, Builtin::PatternTest),
+            condition: symbol_for(names, Builtin::Condition),
+            alternatives: symbol_for(names, Builtin::Alternatives),
+            hold: symbol_for(names, Builtin::HoldPattern),
+            verbatim: symbol_for(names, Builtin::Verbatim),
+        }
+    }
+
     fn form_under(&self, head: Sym, count: usize) -> Form
         ensures { result ≡ form_under self.now head count }
     {

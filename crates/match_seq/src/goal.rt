@@ -107,24 +107,19 @@ impl Choice {
 }
 
 impl Choice {
-    /// The next element is taken.
-    pub(crate) fn taking(self, next: Expr) -> Result<Choice, AllocError>
-        requires { self.at < length self.elements }
-        ensures { IfOk result (λ choice. choice ≡ record { taken = self.taken ++ next ∷ []; left = self.left; elements = self.elements; at = self.at + 1 }) }
+    /// A copy in which the next element is taken.
+    pub(crate) fn taking(&self, alloc: Global, next: &Expr) -> Result<Choice, AllocError>
+        requires { self.now.at < length self.now.elements }
+        ensures { IfOk result (λ choice. choice ≡ record { taken = self.now.taken ++ next.now ∷ []; left = self.now.left; elements = self.now.elements; at = self.now.at + 1 }) }
     {
-        let Choice {
-            mut taken,
-            left,
-            elements,
-            at,
-        } = self;
-        taken.push(next)?;
-        let _count = elements.len();
+        let mut taken = copy_items(alloc, &self.taken)?;
+        taken.push(next.copy(alloc)?)?;
+        let _count = self.elements.len();
         Ok(Choice {
             taken,
-            left,
-            elements,
-            at: at + 1,
+            left: copy_items(alloc, &self.left)?,
+            elements: copy_items(alloc, &self.elements)?,
+            at: self.at + 1,
         })
     }
 

@@ -3,6 +3,7 @@ ghost use Rattle.semantics.specs.Match.{nothing_found, matches};
 ghost use Rattle.semantics.specs.Names as n;
 ghost use Rattle.match_seq.specs.Heads.{matching, heads, told_of};
 ghost use Rattle.match_seq.specs.Origin.{constructs_of};
+ghost use Rattle.builtin_names.specs.Named.{HasBuiltins, names_in};
 ghost use Rattle.match_seq.specs.Search.{answer, answers, steps};
 ghost use Rattle.match_seq.specs.Goals.{found_of, find_pattern, branch, branch_or_dead, after, left, work};
 
@@ -13,6 +14,7 @@ use crate::setting::Setting;
 use crate::source::{AttrSource, add_heads};
 use expr_tree::Expr;
 use item_list::Items;
+use name_table::Names;
 use std::alloc::{AllocError, Global};
 use std::marker::Model;
 
@@ -109,7 +111,22 @@ impl Setting {
 }
 
 impl Matcher {
-    /// The bindings by which a pattern matches an expression, by the symbols of the constructs.
+    /// The bindings by which a pattern matches an expression. A source tells what is Flat and what is Orderless.
+    pub fn new<A: AttrSource>(
+        alloc: Global,
+        pattern: &Expr,
+        subject: &Expr,
+        attrs: &A,
+        names: &Names,
+    ) -> Result<Matcher, AllocError>
+        requires names { HasBuiltins names.now }
+        ensures { IfOk result (λ m. m ≡ matches (names_in names.now) (λ s. matching (A.told attrs.now s)) pattern.now subject.now) }
+    {
+        let made = Matcher::by(alloc, Constructs::of(names), pattern, subject, attrs)?;
+        Ok(made)
+    }
+
+    /// The same by the symbols of the constructs.
     pub(crate) fn by<A: AttrSource>(
         alloc: Global,
         constructs: Constructs,
