@@ -1,3 +1,6 @@
+ghost use Rattle.std.specs.Prelude.{IfOk};
+ghost use Rattle.builtin_names.specs.Named.{HasBuiltins};
+
 use crate::{flatten, flattened, order, sorted, splice, spliced, strip, thread, threaded};
 use builtin_names::{make, names_with};
 use expr_tree::{Attrs, Expr, Exprs, Sym};
@@ -7,7 +10,9 @@ use semantics::Builtin;
 use std::alloc::Global;
 use std::test::Fail;
 
-fn names(alloc: Global) -> Result<Names, Fail> {
+fn names(alloc: Global) -> Result<Names, Fail>
+    ensures { IfOk result (λ names. HasBuiltins names) }
+{
     Ok(names_with(alloc, &Items::new(alloc))?)
 }
 
@@ -31,7 +36,9 @@ fn are(items: &Exprs, a: i128, b: i128) -> bool {
 }
 
 // row[1, 2] alone
-fn wrapped(alloc: Global, names: &Names, row: Builtin) -> Result<Exprs, Fail> {
+fn wrapped(alloc: Global, names: &Names, row: Builtin) -> Result<Exprs, Fail>
+    requires names { HasBuiltins names.now }
+{
     one(alloc, make(alloc, names, row, two(alloc, 1, 2)?)?)
 }
 
@@ -105,26 +112,12 @@ fn elements_are_sorted(rt: HostRuntime) -> Result<(), Fail> {
     Ok(())
 }
 
-// f[{1, 2}] is {f[1], f[2]}
+// f[1] is threaded over nothing
 #[test]
-fn a_call_is_threaded(rt: HostRuntime) -> Result<(), Fail> {
+fn a_call_without_lists_is_not_threaded(rt: HostRuntime) -> Result<(), Fail> {
     let names = names(rt.alloc())?;
-    let items = wrapped(rt.alloc(), &names, Builtin::List)?;
-    let Some(each) = thread(rt.alloc(), &names, head(), items.as_slice())? else {
-        return Err(Fail::from("not threaded"));
-    };
-    assert_eq!(rt; each.len(), 2);
-    let attrs = Attrs {
-        listable: true,
-        ..Attrs::none()
-    };
-    let each = threaded(
-        rt.alloc(),
-        &names,
-        &Expr::symbol(head()),
-        &attrs,
-        items.as_slice(),
-    )?;
-    assert!(rt; each.is_some());
+    assert!(rt; thread(rt.alloc(), &names, head(), &[])?.is_none());
+    let attrs = Attrs::none();
+    assert!(rt; threaded(rt.alloc(), &names, &Expr::symbol(head()), &attrs, &[])?.is_none());
     Ok(())
 }
