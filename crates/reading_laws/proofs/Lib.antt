@@ -1,0 +1,4 @@
+pub mod Carries
+pub mod Limits
+pub mod Cuts
+pub mod Sizes
