@@ -1,11 +1,11 @@
 -- What a product makes of its elements.
-use Rattle.std.proofs.Common.{◌≡◌, ◌≢◌, ◌<◌, ◌≤◌, ◌+◌, ℕ, zero, suc, ℤ, pos, negsuc, ◌*ℤ◌, List, [], ◌∷◌, ◌++◌, length, drop, Bool, true, false, refl, sym, ap, ◌∙◌, subst, arith, append_assoc}
-use Rattle.std.specs.Prelude.{Option, None, Some, Result, Ok, Err}
+use Rattle.std.proofs.Common.{◌≡◌, ◌≢◌, ℤ, pos, ◌*ℤ◌, List, [], ◌∷◌, ◌++◌, Bool, true, false, refl, sym, ap, ◌∙◌, append_assoc}
+use Rattle.std.specs.Prelude.{Option, None, Some}
 use Rattle.std.specs.Ordering.{int_eq}
-use Rattle.expr_tree.specs.Tree.{Tree, Trees, integer, string, symbol, normal, nil, cons, trees, size, sizes, depth, depths}
+use Rattle.expr_tree.specs.Tree.{Tree, Trees, integer, string, symbol, normal, nil, cons}
 use Rattle.expr_tree.specs.Limits.{in_range}
 use Rattle.semantics.specs.Names.{Names, is_name, is_call, make}
-use Rattle.semantics.specs.Worked.{Worked, Stays, Gives, TooWide, all_in_range}
+use Rattle.semantics.specs.Worked.{Gives, TooWide, all_in_range}
 use Rattle.semantics.specs.Numbers as Numbers
 use Rattle.semantics.specs.Numbers.{Part, once, factor, written, numbers_of, assembled, add_part, gather_product}
 use Rattle.semantics.specs.Steps.{ordered}
@@ -13,9 +13,8 @@ use Rattle.std.proofs.lemmas.Bool.Decides.{Decides-int_eq}
 use Rattle.int_ops.specs.Products.{Kept, Stands}
 use Rattle.sum_forms.specs.Taken.{Took}
 use Rattle.semantics.specs.declared.builtin.Builtin.{Builtin}
-use Rattle.builtin_names.specs.Results.{Makes, Works}
 use Rattle.sum_forms.specs.Splits.{power_in}
-use Rattle.sum_forms.specs.Planned.{Plan, Plans, Written, with_one}
+use Rattle.sum_forms.specs.Planned.{with_one}
 use Rattle.sum_forms.proofs.Shapes.{not_made, Powered, powered}
 
 is_call-head : (names : Names) (row : Builtin) (h : Tree) (ts : Trees) → is_call names row (normal h ts) ≡ is_name names row h
@@ -89,7 +88,7 @@ not_true : (b : Bool) → (b ≡ true → ⊥) → b ≡ false
 not_true true never = absurd (never refl)
 not_true false never = refl
 
-not_zero : (z : ℤ) → z ≢ pos 0 → int_eq z (pos 0) ≡ false
+pub not_zero : (z : ℤ) → z ≢ pos 0 → int_eq z (pos 0) ≡ false
 not_zero z other = not_true (int_eq z (pos 0)) (λ e. other ((Decides-int_eq z (pos 0)).0 e))
 
 pub write-some : (names : Names) (p : Part) → p.number ≢ pos 0 → Numbers.write_factor names p ≡ Some (factor_tree names p)

@@ -3,3 +3,4 @@ mod Order
 mod Rests
 mod Lists
 mod Factors
+mod Addends

@@ -1,21 +1,21 @@
 -- Elements of an expression to be made.
-use Rattle.std.proofs.Common.{◌≡◌, ◌<◌, ◌≤◌, ◌+◌, ◌-◌, ◌^◌, ℕ, zero, suc, ℤ, pos, List, [], ◌∷◌, ◌++◌, length, Bool, true, false, refl, sym, ap, ◌∙◌, subst, arith, length-append}
-use Rattle.std.specs.Prelude.{max, Option, None, Some, Result, Ok, Err, IsTrue, cond, min}
+use Rattle.std.proofs.Common.{◌≡◌, ◌<◌, ◌≤◌, ◌+◌, ◌-◌, ◌^◌, ℕ, ℤ, List, [], ◌∷◌, ◌++◌, length, Bool, true, false, refl, sym, ap, ◌∙◌, subst, arith, length-append}
+use Rattle.std.specs.Prelude.{max, Result, Err, min}
 use Rattle.std.specs.Ordering.{int_eq, is_le}
 use Rattle.std.proofs.lemmas.Bool.Decides.{nat_tests}
 use Rattle.expr_tree.specs.Order.{tree_cmp}
 use Rattle.expr_tree.specs.Limits.{Assembles}
 use Rattle.expr_tree.specs.declared.built.Built.{Built}
 use Rattle.expr_tree.specs.declared.built.Built.TheVariants as bu
-use Rattle.expr_tree.specs.Tree.{Tree, Trees, integer, string, symbol, normal, nil, cons, trees, size, sizes, depth, depths}
+use Rattle.expr_tree.specs.Tree.{Tree, integer, string, symbol, normal, trees, size, sizes, depth, depths}
 use Rattle.semantics.specs.Numbers.{assembled}
 use Rattle.semantics.specs.Worked.{Gives}
-use Rattle.semantics.specs.Names.{Names, make}
+use Rattle.semantics.specs.Names.{Names}
 use Rattle.semantics.specs.Steps.{put_in, ordered}
 use Rattle.semantics.specs.declared.builtin.Builtin.{Builtin}
 use Rattle.builtin_names.specs.declared.fault.Fault.{Fault}
 use Rattle.builtin_names.specs.declared.fault.Fault.TheVariants as fa
-use Rattle.builtin_names.specs.Results.{Makes, IsFaultOf, Works}
+use Rattle.builtin_names.specs.Results.{IsFaultOf, Works}
 use Rattle.sum_forms.specs.Planned.{Plan, Plans, Holds, Written, atoms_beside}
 use Rattle.sum_forms.proofs.Order.{sizes-ordered, depths-ordered}
 use Rattle.sum_forms.proofs.Shapes.{not_made}

@@ -1,16 +1,16 @@
 -- A list in canonical order is told by its elements.
-use Rattle.std.proofs.Common.{◌≡◌, ◌<◌, ◌≤◌, ◌+◌, ℕ, zero, suc, List, [], ◌∷◌, length, get_or, Bool, true, false, refl, sym, ap, ◌∙◌, subst, arith}
+use Rattle.std.proofs.Common.{◌≡◌, ◌+◌, ℕ, suc, List, [], ◌∷◌, get_or, Bool, true, false, refl, sym, ap, ◌∙◌, subst, arith}
 use Rattle.std.specs.Prelude.{cond, max}
 use Rattle.std.specs.List.{sum_by}
 use Rattle.std.specs.List.Sorted.{IsPermutation, IsSortedBy}
 use Rattle.std.specs.Ordering.{is_le, is_lt, ordering_reverse}
 use Rattle.std.specs.declared.cmp.Ordering.{Ordering}
 use Rattle.std.specs.declared.cmp.Ordering.TheVariants.{Less, Equal, Greater}
-use Rattle.std.proofs.lemmas.List.Sorted.{sum_by-IsPermutation, sorted_far, ranks_by}
+use Rattle.std.proofs.lemmas.List.Sorted.{sum_by-IsPermutation}
 use Rattle.std.proofs.lemmas.List.Sums.{sum_by-cons}
 use Rattle.expr_tree.specs.Tree.{Tree, trees, size, sizes, depth, depths}
 use Rattle.expr_tree.specs.Order.{tree_cmp, comes_before}
-use Rattle.canon_order.specs.Total.{tree_cmp_total, tree_exact, tree_itself, tree_flip, tree_chain}
+use Rattle.canon_order.specs.Total.{tree_exact, tree_itself, tree_flip, tree_chain}
 use Rattle.semantics.specs.Steps.{put_in, ordered}
 
 abbrev le : Tree → Tree → Bool

@@ -1,21 +1,20 @@
 -- What the rows make of elements of each shape.
 use Rattle.std.proofs.Common.{◌≡◌, ◌≢◌, ◌<◌, ◌+◌, ℕ, zero, suc, ℤ, pos, negsuc, List, [], ◌∷◌, ◌∙◌, length, Err, Bool, true, false, refl, sym, ap, subst, arith}
-use Rattle.std.specs.Prelude.{◌<ℤ◌, ◌*ℤ◌, Option, None, Some, Ok, Result}
-use Rattle.std.proofs.lemmas.Int.{ints}
-use Rattle.expr_tree.specs.Tree.{Tree, Trees, integer, string, symbol, normal, nil, cons, trees, size, depth}
+use Rattle.std.specs.Prelude.{◌*ℤ◌, Option, None, Some, Ok, Result}
+use Rattle.expr_tree.specs.Tree.{Tree, integer, string, symbol, normal, nil, cons, size, depth}
 use Rattle.expr_tree.specs.Limits.{Assembles, in_range}
 use Rattle.expr_tree.specs.Shapes.{pair_of}
 use Rattle.expr_tree.specs.declared.built.Built.{Built}
 use Rattle.expr_tree.specs.declared.built.Built.TheVariants as bu
 use Rattle.expr_tree.proofs.Callers.{tree_steps}
 use Rattle.semantics.specs.Names.{Names, make, is_name}
-use Rattle.semantics.specs.Worked.{Worked, Stays, Gives, TooWide, gives_int}
+use Rattle.semantics.specs.Worked.{Stays, Gives, gives_int}
 use Rattle.semantics.specs.Numbers as Numbers
 use Rattle.semantics.specs.Numbers.{Part}
 use Rattle.semantics.specs.declared.builtin.Builtin.{Builtin}
 use Rattle.builtin_names.specs.declared.fault.Fault.{Fault}
 use Rattle.sum_forms.specs.Splits.{power_in}
-use Rattle.builtin_names.specs.Results.{IsFaultOf, IsNoMemory, Makes, Works, fault_of}
+use Rattle.builtin_names.specs.Results.{IsFaultOf, Makes, Works, fault_of}
 
 -- an expression that was not made
 pub not_made : (t : Tree) (b : Built) → Assembles t (Err b) → IsFaultOf t (fault_of b)

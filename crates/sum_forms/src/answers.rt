@@ -1,5 +1,5 @@
 //! What a row answers, from what its parts answered.
-ghost use Rattle.std.specs.Prelude.{◌≡◌, ◌+◌, ◌<◌, [], ◌∷◌, Err, IfOk};
+ghost use Rattle.std.specs.Prelude.{◌≡◌, ◌+◌, ◌<◌, ◌≤◌, [], ◌∷◌, Err, IfOk};
 ghost use Rattle.expr_tree.specs.Tree.{Tree, size, depth};
 ghost use Rattle.expr_tree.specs.Limits.{Assembles};
 ghost use Rattle.semantics.specs.Worked.{Worked, Gives};
@@ -54,4 +54,15 @@ pub(crate) fn around(part: Built, beside: u64) -> Fault
         },
         Built::NoMemory => Fault::NoMemory,
     }
+}
+
+/// An expression, which is within the limits.
+pub(crate) fn within(e: Expr) -> Expr
+    ensures same { result ≡ e }
+    ensures size { size e ≤ 4000000 }
+    ensures depth { depth e ≤ 512 }
+{
+    let _size = e.size();
+    let _depth = e.depth();
+    e
 }

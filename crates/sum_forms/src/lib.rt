@@ -6,6 +6,7 @@ mod groups;
 mod powers;
 mod products;
 mod short_forms;
+mod sums;
 mod terms;
 #[cfg(test)]
 mod tests;
@@ -13,3 +14,4 @@ mod tests;
 pub use powers::power;
 pub use products::times;
 pub use short_forms::{divide, minus, subtract};
+pub use sums::plus;

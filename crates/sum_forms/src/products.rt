@@ -1,9 +1,9 @@
 //! `Times`.
-ghost use Rattle.std.specs.Prelude.{◌≡◌, ◌≤◌, true, ℤ, List, Some, OnOk};
+ghost use Rattle.std.specs.Prelude.{◌≡◌, true, ℤ, List, Some, OnOk};
 ghost use Rattle.semantics.specs.Numbers as Numbers;
 ghost use Rattle.semantics.specs.Numbers.{numbers_of, write_factor, written};
 ghost use Rattle.semantics.specs.Worked.{all_in_range};
-ghost use Rattle.expr_tree.specs.Tree.{Tree, size, depth};
+ghost use Rattle.expr_tree.specs.Tree.{Tree};
 ghost use Rattle.expr_tree.specs.Limits.{Assembles, in_range};
 ghost use Rattle.int_ops.specs.Products.{Stands};
 ghost use Rattle.builtin_names.specs.Named.{HasBuiltins, names_in};
@@ -11,7 +11,7 @@ ghost use Rattle.builtin_names.specs.Results.{Works};
 ghost use Rattle.sum_forms.specs.Planned.{Plans, Written, with_one};
 ghost use Rattle.sum_forms.specs.Taken.{Took};
 
-use crate::answers::{given, pair};
+use crate::answers::{given, pair, within};
 use crate::groups::{Group, add_to, are_in_range};
 use crate::powers::power_in;
 use crate::terms::Terms;
@@ -143,15 +143,4 @@ fn factor(alloc: Global, names: &Names, exponent: i128, base: &Expr) -> Result<E
     }
     let items = pair(alloc, base.copy(alloc)?, Expr::int(exponent))?;
     make(alloc, names, Builtin::Power, items)
-}
-
-/// An expression, which is within the limits.
-fn within(e: Expr) -> Expr
-    ensures same { result ≡ e }
-    ensures size { size e ≤ 4000000 }
-    ensures depth { depth e ≤ 512 }
-{
-    let _size = e.size();
-    let _depth = e.depth();
-    e
 }

@@ -1,6 +1,5 @@
-use Rattle.std.proofs.Common.{rules, ◌≡◌, arith}
+use Rattle.std.proofs.Common.{rules, ◌≡◌}
 use Rattle.std.specs.Prelude.{Some}
-use Rattle.std.proofs.lemmas.Int.{ints}
 use Rattle.builtin_names.specs.Named.{names_in}
 use Rattle.sum_forms.specs.Splits.{power_in}
 use Rattle.sum_forms.proofs.Shapes.{raised}

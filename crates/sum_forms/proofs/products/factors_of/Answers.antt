@@ -1,4 +1,4 @@
-use Rattle.std.proofs.Common.{rules, ◌≡◌, ◌+◌, ◌∷◌, ◌∙◌, Err, sym, subst, drop, add-one}
+use Rattle.std.proofs.Common.{◌≡◌, ◌+◌, ◌∷◌, Err, subst, drop, add-one}
 use Rattle.semantics.specs.Numbers.{write_factor, written}
 use Rattle.builtin_names.specs.Named.{names_in}
 use Rattle.sum_forms.specs.Planned.{Written, with_one}

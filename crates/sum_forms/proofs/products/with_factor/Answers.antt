@@ -1,4 +1,4 @@
-use Rattle.std.proofs.Common.{rules, ◌≡◌, ◌≢◌, pos, sym, subst, arith}
+use Rattle.std.proofs.Common.{rules, ◌≡◌, ◌≢◌, pos, sym, subst}
 use Rattle.std.specs.Prelude.{Some}
 use Rattle.std.specs.Int.{w128, cast_signed, cast_unsigned}
 use Rattle.semantics.specs.Numbers.{write_factor}

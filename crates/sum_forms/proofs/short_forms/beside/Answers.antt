@@ -1,4 +1,4 @@
-use Rattle.std.proofs.Common.{rules, arith, ◌+◌}
+use Rattle.std.proofs.Common.{arith, ◌+◌}
 use Rattle.sum_forms.proofs.Shapes.{beside-fault}
 use Rattle.builtin_names.specs.Named.{names_in}
 use Rattle.sum_forms.proofs.short_forms.beside.Goals as goal

@@ -1,4 +1,4 @@
-use Rattle.std.proofs.Common.{rules, ap, sym, subst, ◌∙◌, ◌≡◌}
+use Rattle.std.proofs.Common.{rules, ap, subst, ◌∙◌, ◌≡◌}
 use Rattle.std.specs.Prelude.{FitsSigned}
 use Rattle.std.specs.Int.{w128}
 use Rattle.std.proofs.lemmas.Int.{to_z-of_z}
@@ -8,7 +8,6 @@ use Rattle.semantics.specs.Numbers.{assembled}
 use Rattle.semantics.specs.Steps.{ordered}
 use Rattle.builtin_names.specs.Named.{names_in}
 use Rattle.builtin_names.specs.Results.{Makes}
-use Rattle.sum_forms.specs.Planned.{Plans}
 use Rattle.sum_forms.proofs.Lists.{kept}
 use Rattle.sum_forms.proofs.Order.{sorted-ordered}
 use Rattle.sum_forms.proofs.terms.Terms.finish.Goals as goal

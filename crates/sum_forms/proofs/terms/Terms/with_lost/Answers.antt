@@ -1,4 +1,4 @@
-use Rattle.std.proofs.Common.{rules, arith, true, refl, sym, subst}
+use Rattle.std.proofs.Common.{arith, true, refl, sym, subst}
 use Rattle.sum_forms.specs.Planned.{Plans}
 use Rattle.sum_forms.specs.contracts.terms.Terms.{the_view}
 use Rattle.sum_forms.proofs.Lists.{plans-lost}
