@@ -1,4 +1,5 @@
 mod LastOf
+mod Fronts
 mod Mapped
 mod Holds
 mod Counted

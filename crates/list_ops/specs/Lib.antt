@@ -2,5 +2,6 @@ pub mod Holds
 pub mod Counted
 pub mod Under
 pub mod Flat
+pub mod Fronts
 pub mod Repeats
 pub mod Rows

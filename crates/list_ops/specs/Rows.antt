@@ -9,6 +9,7 @@ is_of_lists Builtin.Length = true
 is_of_lists Builtin.First = true
 is_of_lists Builtin.Last = true
 is_of_lists Builtin.Rest = true
+is_of_lists Builtin.Most = true
 is_of_lists Builtin.Append = true
 is_of_lists Builtin.Prepend = true
 is_of_lists Builtin.Reverse = true
