@@ -3,5 +3,6 @@ pub mod Counted
 pub mod Under
 pub mod Flat
 pub mod Fronts
+pub mod Spans
 pub mod Repeats
 pub mod Rows
