@@ -1,4 +1,6 @@
 mod LastOf
+mod Fronts
+mod Spans
 mod Mapped
 mod Holds
 mod Counted

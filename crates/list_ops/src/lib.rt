@@ -3,6 +3,7 @@
 
 mod answer;
 mod applied;
+mod cuts;
 mod ends;
 mod flattening;
 mod joins;
@@ -11,6 +12,7 @@ mod orders;
 mod table;
 
 pub use applied::{row_apply, row_itself, row_map, row_release_hold, row_total};
+pub use cuts::{row_drop, row_most, row_take};
 pub use ends::{row_append, row_first, row_head, row_last, row_length, row_prepend, row_rest};
 pub use flattening::row_flatten;
 pub use joins::row_join;

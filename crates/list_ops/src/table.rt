@@ -6,6 +6,7 @@ ghost use Rattle.builtin_names.specs.Results.{Works};
 ghost use Rattle.list_ops.specs.Rows.{is_of_lists};
 
 use crate::applied::{row_apply, row_itself, row_map, row_release_hold, row_total};
+use crate::cuts::{row_drop, row_most, row_take};
 use crate::ends::{row_append, row_first, row_head, row_last, row_length, row_prepend, row_rest};
 use crate::flattening::row_flatten;
 use crate::joins::row_join;
@@ -35,6 +36,9 @@ pub fn rewrite(
         Builtin::First => Some(row_first(alloc, items)),
         Builtin::Last => Some(row_last(alloc, items)),
         Builtin::Rest => Some(row_rest(alloc, items)),
+        Builtin::Most => Some(row_most(alloc, items)),
+        Builtin::Take => Some(row_take(alloc, names, items)),
+        Builtin::Drop => Some(row_drop(alloc, names, items)),
         Builtin::Append => Some(row_append(alloc, items)),
         Builtin::Prepend => Some(row_prepend(alloc, items)),
         Builtin::Reverse => Some(row_reverse(alloc, items)),
