@@ -1,0 +1,6 @@
+mod Rows
+mod Pieces
+mod Scans
+mod Leaves
+mod Blanks
+mod Shaped

@@ -1,0 +1,113 @@
+-- Expressions whose input form is read again, computed; and the least integer, whose input form is not.
+use Rattle.std.proofs.Common.{◌≡◌, refl, ℕ, zero, suc, ◌+◌, ◌-◌, ◌^◌, List, [], ◌∷◌, ◌++◌, map, Option, Some, None, pos, negsuc}
+use Rattle.std.specs.Prelude.{codes, length}
+use Rattle.std.specs.Fmt.{digits}
+use Rattle.expr_tree.specs.declared.sym.Sym.{Sym}
+use Rattle.expr_tree.specs.Tree.{Tree, integer, string, symbol, call}
+use Rattle.semantics.specs.declared.builtin.Builtin.{Builtin}
+use Rattle.semantics.specs.Builtin.{row_number, rows}
+use Rattle.semantics.specs.Names.{Names, make}
+use Rattle.semantics.specs.Texts.{row_text}
+use Rattle.script_text.specs.Spelling.{Spelling, by_texts, place_in}
+use Rattle.syntax.specs.Input.{input}
+use Rattle.syntax.specs.Shapes.{shape_in}
+use Rattle.syntax.specs.Tokens.{LexFault, WideNumber, lex}
+use Rattle.syntax.specs.Operators.{infix_row, level_of, right_of, gives_of, tags_of, leads_at, trails_at}
+use Rattle.syntax.specs.Terminals.{sign_start, sign_next, word_start, word_next, on_line}
+use Rattle.syntax.specs.Grammar.{nesting_limit}
+use Rattle.syntax.proofs.Reader.{frame_level, level_at, completed, popped, reduce, push, begins, begins_in, only_at, attached, tag_on_top, joined, separated, closes, made, closed_elements, closed_group, closed, goes_on, next_level, follows_phrase, follows_semicolon, part_opened, follows_opening, follows_half, follows, run, finished}
+use Rattle.syntax.proofs.Read.{parsed}
+
+abbrev row_at : List Builtin → ℕ → Option Builtin
+row_at [] n = None
+row_at (r ∷ rs) zero = Some r
+row_at (r ∷ rs) (suc n) = row_at rs n
+
+-- the base of a row is its place in the table
+abbrev names : Names
+names = record { place = row_number; role = row_at rows }
+
+abbrev texts : List (List ℕ)
+texts = map row_text rows ++ (codes "a" ∷ codes "b" ∷ codes "c" ∷ codes "f" ∷ codes "x" ∷ [])
+
+abbrev sym : ℕ → Tree
+sym n = symbol (record { base = length rows + n; number = 0 })
+
+abbrev a' : Tree
+a' = sym 0
+
+abbrev b' : Tree
+b' = sym 1
+
+abbrev c' : Tree
+c' = sym 2
+
+abbrev f' : Tree
+f' = sym 3
+
+abbrev x' : Tree
+x' = sym 4
+
+abbrev int : ℕ → Tree
+int k = integer (pos k)
+
+-- -k
+abbrev less : ℕ → Tree
+less k = integer (negsuc (k - 1))
+
+abbrev of : Builtin → List Tree → Tree
+of row es = make names row es
+
+abbrev text : Tree → List ℕ
+text e = input (by_texts texts) (shape_in names) e
+
+abbrev again : Tree → Option LexFault × Option Tree
+again e = ((lex (text e)).fault, parsed names (place_in texts) (text e))
+
+abbrev as_it_is : Tree → Option LexFault × Option Tree
+as_it_is e = (None, Some e)
+
+abbrev negatives : List Tree
+negatives =
+    of Builtin.Power (less 1 ∷ int 2 ∷ [])
+    ∷ of Builtin.Power (int 2 ∷ less 1 ∷ [])
+    ∷ of Builtin.Times (a' ∷ less 2 ∷ b' ∷ [])
+    ∷ of Builtin.Times (less 1 ∷ int 5 ∷ [])
+    ∷ of Builtin.Times (less 1 ∷ a' ∷ [])
+    ∷ of Builtin.Times (less 1 ∷ of Builtin.Times (less 1 ∷ a' ∷ []) ∷ [])
+    ∷ of Builtin.Times (less 1 ∷ of Builtin.Plus (a' ∷ b' ∷ []) ∷ [])
+    ∷ of Builtin.Plus (a' ∷ of Builtin.Times (less 1 ∷ b' ∷ []) ∷ [])
+    ∷ of Builtin.Plus (of Builtin.Times (less 1 ∷ a' ∷ b' ∷ []) ∷ less 3 ∷ of Builtin.Times (less 1 ∷ int 2 ∷ c' ∷ []) ∷ of Builtin.Times (less 1 ∷ b' ∷ c' ∷ []) ∷ [])
+    ∷ of Builtin.Times (int 0 ∷ less 1 ∷ [])
+    ∷ of Builtin.Not (less 1 ∷ [])
+    ∷ call (less 1) (less 1 ∷ [])
+    ∷ []
+
+abbrev operators : List Tree
+operators =
+    of Builtin.Condition (of Builtin.Condition (a' ∷ b' ∷ []) ∷ of Builtin.Condition (a' ∷ b' ∷ []) ∷ [])
+    ∷ of Builtin.ReplaceAll (of Builtin.ReplaceRepeated (a' ∷ b' ∷ []) ∷ of Builtin.Rule (a' ∷ of Builtin.Rule (b' ∷ c' ∷ []) ∷ []) ∷ [])
+    ∷ call (of Builtin.PatternTest (of Builtin.PatternTest (of Builtin.Pattern (x' ∷ of Builtin.Blank (a' ∷ []) ∷ []) ∷ f' ∷ []) ∷ call f' (a' ∷ []) ∷ [])) []
+    ∷ of Builtin.Function (of Builtin.Function (of Builtin.Slot (int 1 ∷ []) ∷ []) ∷ [])
+    ∷ of Builtin.Set (of Builtin.Set (a' ∷ b' ∷ []) ∷ of Builtin.Set (a' ∷ of Builtin.Function (b' ∷ []) ∷ []) ∷ [])
+    ∷ of Builtin.CompoundExpression (a' ∷ of Builtin.CompoundExpression (a' ∷ of Builtin.Null [] ∷ []) ∷ symbol (record { base = row_number Builtin.Null; number = 0 }) ∷ [])
+    ∷ of Builtin.Equal (of Builtin.Equal (a' ∷ b' ∷ []) ∷ of Builtin.Plus (a' ∷ b' ∷ []) ∷ c' ∷ [])
+    ∷ of Builtin.SameQ (of Builtin.Less (a' ∷ b' ∷ []) ∷ of Builtin.SameQ (a' ∷ b' ∷ []) ∷ c' ∷ [])
+    ∷ of Builtin.And (of Builtin.Not (of Builtin.Not (a' ∷ []) ∷ []) ∷ of Builtin.Or (a' ∷ b' ∷ []) ∷ [])
+    ∷ of Builtin.Pattern (x' ∷ of Builtin.Alternatives (of Builtin.Pattern (x' ∷ less 1 ∷ []) ∷ of Builtin.Not (a' ∷ []) ∷ []) ∷ [])
+    ∷ of Builtin.Hold (of Builtin.Part (a' ∷ less 1 ∷ []) ∷ call (of Builtin.Blank []) [] ∷ [])
+    ∷ call (string (34 ∷ 92 ∷ 10 ∷ 9 ∷ 13 ∷ 10 ∷ 10 ∷ 0 ∷ 255 ∷ [])) (symbol (record { base = length rows; number = 12 }) ∷ of Builtin.SlotSequence (int 7 ∷ []) ∷ of Builtin.Slot (int 0 ∷ []) ∷ [])
+    ∷ []
+
+negatives_again : map again negatives ≡ map as_it_is negatives
+unfolding digits frame_level level_at completed popped reduce push begins begins_in only_at attached tag_on_top joined separated closes made closed_elements closed_group closed goes_on next_level follows_phrase follows_semicolon part_opened follows_opening follows_half follows run finished infix_row level_of right_of gives_of tags_of leads_at trails_at sign_start sign_next word_start word_next on_line nesting_limit
+negatives_again = refl
+
+operators_again : map again operators ≡ map as_it_is operators
+unfolding digits frame_level level_at completed popped reduce push begins begins_in only_at attached tag_on_top joined separated closes made closed_elements closed_group closed goes_on next_level follows_phrase follows_semicolon part_opened follows_opening follows_half follows run finished infix_row level_of right_of gives_of tags_of leads_at trails_at sign_start sign_next word_start word_next on_line nesting_limit
+operators_again = refl
+
+-- the digits behind its sign are too large for a number token
+the_least_integer : (lex (text (integer (negsuc (2 ^ 127 - 1))))).fault ≡ Some (WideNumber 1)
+unfolding digits
+the_least_integer = refl
