@@ -4,3 +4,6 @@ mod Scans
 mod Leaves
 mod Blanks
 mod Shaped
+mod Joints
+mod Phrases
+mod Chains
