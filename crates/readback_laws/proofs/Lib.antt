@@ -7,3 +7,4 @@ mod Shaped
 mod Joints
 mod Phrases
 mod Chains
+mod Atoms

@@ -2,10 +2,11 @@
 --     Phrased              a text that is a phrase
 --     Good, Operand        the text of an expression at its own level, and at the level that is asked of it
 --     Sign, Side           what such a text is behind its minus sign, if it has one
-use Rattle.std.proofs.Common.{◌≡◌, refl, sym, ap, ap₂, subst, ◌∙◌, ℕ, zero, suc, ◌+◌, ◌*◌, ◌<◌, ◌≤◌, ◌⊎◌, inl, inr, Bool, true, false, cond, List, [], ◌∷◌, ◌++◌, map, append_assoc, append-nil, true≢false, arith, le_trans, le_refl, ltb-true, ltb-false, eqb-true, eq-eqb}
+use Rattle.std.proofs.Common.{◌≡◌, refl, sym, ap, ap₂, subst, ◌∙◌, ℕ, zero, suc, ◌+◌, ◌*◌, ◌<◌, ◌≤◌, ◌⊎◌, inl, inr, Bool, true, false, cond, List, [], ◌∷◌, ◌++◌, map, append_assoc, append-nil, true≢false, arith, le_trans, le_refl, ltb-true, ltb-false, eqb-true, eq-eqb, ◌^◌, negsuc}
 use Rattle.std.proofs.lemmas.List.{map-append}
 use Rattle.std.specs.Prelude.{◌==◌, ◌&&◌, ◌||◌, ltb, not, codes}
-use Rattle.expr_tree.specs.Tree.{Tree}
+use Rattle.std.specs.Fmt.{decimal}
+use Rattle.expr_tree.specs.Tree.{Tree, integer}
 use Rattle.semantics.specs.Names.{Names}
 use Rattle.syntax.specs.Tokens.{Kind, Takes, scan}
 use Rattle.syntax.specs.Leaves.{Lexeme}
@@ -99,6 +100,14 @@ looser p h a_name = a_name
 looser p h (a_number i) = a_number i
 looser p h (open_in j l) = open_in j (le_trans h l)
 
+-- a negative integer, where the text behind the sign is its digits
+pub record Negative (e : Tree) (level : ℕ) (rest : List ℕ) : Type 0 where
+  pub n : ℕ
+  pub is : e ≡ integer (negsuc n)
+  pub digits : rest ≡ decimal (suc n)
+  pub fits : suc n < 2 ^ 127
+  pub level_low : level ≤ 20
+
 module _ (names : Names) (find : List ℕ → ℕ) where
   abbrev pub terms : List Piece → List Terminal
   terms ps = terminals names find (words ps)
@@ -133,7 +142,7 @@ module _ (names : Names) (find : List ℕ → ℕ) where
   pub data Sign (e : Tree) (level : ℕ) (text : List ℕ) (depth : ℕ) : Type 0 where
     unsigned : NoDash text → Sign e level text depth
     low : level < 18 → Sign e level text depth
-    signed : (rest : List ℕ) → text ≡ 45 ∷ rest → (is_integer e ≡ true) ⊎ (level ≤ 18) → Minus e rest depth → Sign e level text depth
+    signed : (rest : List ℕ) → text ≡ 45 ∷ rest → Negative e level rest ⊎ (level ≤ 18) → Minus e rest depth → Sign e level text depth
 
   pub record Good (e : Tree) (level : ℕ) (text : List ℕ) (depth : ℕ) : Type 0 where
     pub pieces : List Piece
@@ -151,7 +160,7 @@ module _ (names : Names) (find : List ℕ → ℕ) where
 
   pub data Side (e : Tree) (level : ℕ) (text : List ℕ) (depth : ℕ) : Type 0 where
     plainly : NoDash text → Side e level text depth
-    dashed : (rest : List ℕ) → text ≡ 45 ∷ rest → (is_integer e ≡ true) ⊎ (level ≤ 18) → Minus e rest depth → Side e level text depth
+    dashed : (rest : List ℕ) → text ≡ 45 ∷ rest → Negative e level rest ⊎ (level ≤ 18) → Minus e rest depth → Side e level text depth
 
   pub record Operand (e : Tree) (level : ℕ) (text : List ℕ) (depth : ℕ) : Type 0 where
     pub pieces : List Piece
@@ -186,9 +195,10 @@ module _ (names : Names) (find : List ℕ → ℕ) where
   parens_cut : (ps : List Piece) (t rest : List ℕ) → bytes ps ≡ t → Opens t → AreCut ps ((41 ∷ []) ++ rest) → AreCut (in_parens ps) rest
   parens_cut ps t rest e o c =
       let whole : (t ++ (41 ∷ [])) ++ rest ≡ bytes (ps ++ (word Kind.Operator (41 ∷ []) ∷ [])) ++ rest =
-      ap (λ (cs : List ℕ). cs ++ rest) (ap (λ (cs : List ℕ). cs ++ (41 ∷ [])) (sym e) ∙ sym (bytes_then ps (word Kind.Operator (41 ∷ []) ∷ []))) in
-      (ap (scan 40) (sym whole ∙ append_assoc t (41 ∷ []) rest) ∙ open_cut t ((41 ∷ []) ++ rest) o,
-      cut_then ps (word Kind.Operator (41 ∷ []) ∷ []) rest c (close_cut rest, tt))
+      ap (λ (cs : List ℕ). cs ++ rest) (ap (λ (cs : List ℕ). cs ++ (41 ∷ [])) (sym e) ∙ sym (bytes_then ps (word Kind.Operator (41 ∷ []) ∷ []))) in (
+        ap (scan 40) (sym whole ∙ append_assoc t (41 ∷ []) rest) ∙ open_cut t ((41 ∷ []) ++ rest) o,
+        cut_then ps (word Kind.Operator (41 ∷ []) ∷ []) rest c (close_cut rest, tt),
+      )
 
   parens_read : (ps : List Piece) (e : Tree) (k : PhraseKind) (edge room q : ℕ) → Reading room 2 (terms ps) (phrase e k) edge → Reading (suc room) q (terms (in_parens ps)) (phrase e Closed) 100
   unfolding sign_start sign_next word_start word_next on_line
@@ -199,7 +209,7 @@ module _ (names : Names) (find : List ℕ → ℕ) where
   side_of : (e : Tree) (p level : ℕ) (text : List ℕ) (depth : ℕ) → p ≤ level → 18 ≤ p → Sign e level text depth → Side e p text depth
   side_of e p level text depth h k (unsigned d) = plainly d
   side_of e p level text depth h k (low l) = absurd (omega (arith, h, k, l))
-  side_of e p level text depth h k (signed rest s (inl i) m) = dashed rest s (inl i) m
+  side_of e p level text depth h k (signed rest s (inl i) m) = dashed rest s (inl (record { n = i.n; is = i.is; digits = i.digits; fits = i.fits; level_low = le_trans h i.level_low })) m
   side_of e p level text depth h k (signed rest s (inr i) m) = dashed rest s (inr (omega (arith, h, i))) m
 
   -- the text where an operand of level p is asked for
