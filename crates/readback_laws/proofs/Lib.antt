@@ -8,3 +8,4 @@ mod Joints
 mod Phrases
 mod Chains
 mod Atoms
+mod Joined
