@@ -9,3 +9,4 @@ mod Phrases
 mod Chains
 mod Atoms
 mod Joined
+mod Enclosed
