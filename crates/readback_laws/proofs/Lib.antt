@@ -10,3 +10,4 @@ mod Chains
 mod Atoms
 mod Joined
 mod Enclosed
+mod Pairs
