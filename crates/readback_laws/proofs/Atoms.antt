@@ -18,7 +18,7 @@ use Rattle.readback_laws.proofs.Pieces.{Piece, word, gap, bytes, AreCut, IsCut}
 use Rattle.readback_laws.proofs.Scans.{both_true, Ends}
 use Rattle.readback_laws.proofs.Leaves.{Numeral, numeral, number_cut, number_value, name_cut, string_cut, string_value}
 use Rattle.readback_laws.proofs.Blanks.{AreMarks, one, two, three, MayName, nothing, a_name as a_name_of, blank_cut, named_cut, blank_value, named_some, SlotNumeral, slot_cut, slots_cut, slot_value, slots_value}
-use Rattle.readback_laws.proofs.Phrases.{opens_then, no_dash_then, opens_well, Opens, Opener, opener, NoDash, least, Fits, closed, a_name, a_number, terms, Reading, as_term, phrase, Phrased, Minus, Negative, Sign, unsigned, low, signed, Good}
+use Rattle.readback_laws.proofs.Phrases.{least_high, plainly, Operand, opens_then, no_dash_then, opens_well, Opens, Opener, opener, NoDash, least, Fits, closed, a_name, a_number, terms, Reading, as_term, phrase, Phrased, Minus, Negative, Sign, unsigned, low, signed, Good}
 
 -- ---- first bytes
 
@@ -208,3 +208,24 @@ module _ (names : Names) (find : List ℕ → ℕ) where
       leaf_good {k = Kind.Slot} (make names Builtin.SlotSequence (integer (pos n) ∷ [])) Closed depth
       (record { is = ap (λ (d : Tree). Value (phrase names find d Closed)) (slots_value names find n (decimal n) w); cut = λ rest r. slots_cut n (decimal n) rest w r }) closed
       (record { opens = refl; no_dash = refl }) s
+
+  -- a symbol where a name token is asked for
+  pub name_operand : (t : List ℕ) (x : Sym) (level depth : ℕ) → is_name t ≡ true → name_leaf names find t ≡ symbol x → 0 < depth → level ≤ 27 → (o : Operand names find (symbol x) level t depth) × (o.kind ≡ NameToken)
+  name_operand t x level depth n v s l =
+      let f = name_first t n in
+      let leaf : Leaf Kind.Name t (phrase names find (symbol x) NameToken) = record { is = ap (λ (e : Tree). Value (phrase names find e NameToken)) v; cut = λ rest e. name_cut t rest n e } in (
+        record {
+          pieces = word Kind.Name t ∷ [];
+          spelled = append-nil t;
+          opens = f.opens;
+          cut = λ rest r. (leaf.cut rest r, tt);
+          kind = NameToken;
+          fits = a_name;
+          edge = 100;
+          tight = let h = least_high level in omega (arith, l, h);
+          some = s;
+          reads = λ room q w b. leaf_reads room q leaf;
+          side = λ k. plainly f.no_dash;
+        },
+        refl,
+      )

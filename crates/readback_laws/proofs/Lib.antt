@@ -11,3 +11,4 @@ mod Atoms
 mod Joined
 mod Enclosed
 mod Pairs
+mod Again

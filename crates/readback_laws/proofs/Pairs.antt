@@ -8,7 +8,7 @@ use Rattle.script_text.specs.Bytes.{begins_with}
 use Rattle.syntax.specs.Shapes as s
 use Rattle.syntax.specs.Tokens.{Kind, Scan, Takes, scan}
 use Rattle.syntax.specs.Operators.{Operator, Prefix, Postfix, infix_row, level_of, right_of, gives_of, leads_at, trails_at}
-use Rattle.syntax.specs.Terminals.{Phrase, PhraseKind, Closed, Terminal, sign_start, sign_next, word_start, word_next, on_line}
+use Rattle.syntax.specs.Terminals.{Phrase, PhraseKind, Closed, NameToken, Terminal, sign_start, sign_next, word_start, word_next, on_line}
 use Rattle.syntax.specs.Phrases.{of, joined, accepts_by}
 use Rattle.syntax.specs.Grammar.{PhraseOf, IsJoin, joins, binary, leads, trails}
 use Rattle.readback_laws.proofs.Pieces.{Piece, word, gap, bytes, AreCut, bytes_then, cut_then}
@@ -266,6 +266,10 @@ module _ (names : Names) (find : List ℕ → ℕ) where
   takes_any s.Set k e = refl
   takes_any s.SetDelayed k e = refl
   takes_any s.Naming k e = absurd (true≢false (sym e))
+
+  pub takes_name : (k : PhraseKind) → k ≡ NameToken → accepts_by (gives_of (pair_op s.Naming)) k ≡ true
+  unfolding gives_of infix_row
+  takes_name k e = ap (λ (j : PhraseKind). accepts_by (gives_of (pair_op s.Naming)) j) e
 
   pub pair_good : {a b : Tree} {ta tb : List ℕ} {d d' depth : ℕ} (p : s.Pair) → (l : Operand names find a (s.pair_left p) ta d) → accepts_by (gives_of (pair_op p)) l.kind ≡ true → d < depth
       → Operand names find b (s.pair_right p) tb d' → d' < depth → Good names find (make names (pair_row p) (a ∷ b ∷ [])) (s.pair_level p) (ta ++ s.pair_sign p ++ tb) depth

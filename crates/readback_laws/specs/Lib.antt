@@ -1,0 +1,2 @@
+pub mod Showable
+pub mod Laws
