@@ -1,26 +1,35 @@
 -- What input form shows is read again.
-use Rattle.std.proofs.Common.{◌≡◌, refl, sym, ap, ap₂, subst, subst₂, ◌∙◌, ℕ, zero, suc, ◌+◌, ◌*◌, ◌^◌, ◌<◌, ◌≤◌, ◌⊎◌, inl, inr, max, Bool, true, false, cond, List, [], ◌∷◌, ◌++◌, length, get_or, append-nil, true≢false, arith, ne_eqb, eqb-true, le-leb, leb-true, ltb-true, le_refl, pos, negsuc, ℤ, Some, None}
+use Rattle.std.proofs.Common.{◌≡◌, refl, sym, ap, ap₂, subst, subst₂, ◌∙◌, ℕ, suc, ◌+◌, ◌^◌, ◌<◌, ◌≤◌, ◌⊎◌, inl, inr, ⊎_elim, Bool, true, false, cond, List, [], ◌∷◌, ◌++◌, length, append-nil, true≢false, arith, ne_eqb, eqb-true, le-leb, leb-true, ltb-true, le_refl, pos, negsuc}
 use Rattle.std.specs.Prelude.{◌==◌, ◌&&◌, leb, not, codes}
-use Rattle.std.specs.Fmt.{decimal, signed_decimal}
+use Rattle.std.specs.Fmt.{decimal}
 use Rattle.expr_tree.specs.declared.sym.Sym.{Sym}
-use Rattle.expr_tree.specs.Tree.{Tree, Trees, integer, string, symbol, normal, nil, cons, elements, trees, call, count, depth, depths}
+use Rattle.expr_tree.specs.Tree.{Tree, Trees, integer, string, symbol, normal, nil, cons, elements, count, depth, depths}
 use Rattle.expr_tree.proofs.Trees.{trees-elements}
 use Rattle.semantics.specs.declared.builtin.Builtin.{Builtin}
 use Rattle.semantics.specs.Names.{Names, IsNames, make, name}
-use Rattle.script_text.specs.Bytes.{is_name}
-use Rattle.script_text.specs.Spelling.{Spelling, spelled, symbol_text}
+use Rattle.script_text.specs.Spelling.{Spelling, symbol_text}
 use Rattle.script_text.specs.FullForm.{IsSpelled}
 use Rattle.script_text.specs.Reader.{symbol_of}
 use Rattle.script_text.proofs.Again.{IsFound, AreFound}
-use Rattle.syntax.specs.Leaves.{name_leaf, blank_row, blank_head}
+use Rattle.script_text.specs.Spelling.{by_texts, place_in}
+use Rattle.script_text.specs.Laws.{AreDistinct, IsKept, AreKept}
+use Rattle.script_text.proofs.Unique.{found_at}
+use Rattle.syntax.specs.Leaves.{Lexeme, name_leaf, blank_row, blank_head}
+use Rattle.syntax.specs.Terminals.{Phrase, terminals}
+use Rattle.syntax.specs.Grammar.{WholeOf, plain, nesting_limit}
+use Rattle.syntax.specs.Reads.{Reads, LexemesRead}
+use Rattle.syntax.proofs.Read.{one_reading}
+use Rattle.syntax.proofs.Reader.{run, finished, start_state, not_read}
+use Rattle.readback_laws.specs.Laws.{InputIsReadAgain, InputTellsApart}
+use Rattle.readback_laws.proofs.Pieces.{words, IsMadeOf, made_of}
 use Rattle.syntax.specs.Shapes as s
-use Rattle.syntax.specs.Phrases.{minus_one}
-use Rattle.syntax.specs.Input.{Shown, at_level, all_at, together, form_level, form_text, fitted, form_of, shown_as, shape_at, unless_brackets, is_symbol, is_integer, is_minus_one, is_slot_number, symbol_at_most, slot_number, product_form, blank_shape, is_blank, named_form, shown, all_shown}
+use Rattle.syntax.specs.Phrases.{minus_one, written}
+use Rattle.syntax.specs.Input.{Shown, input, at_level, together, form_level, form_text, fitted, form_of, shown_as, shape_at, unless_brackets, is_integer, is_minus_one, symbol_at_most, slot_number, product_form, blank_shape, is_blank, named_form, shown, all_shown}
 use Rattle.readback_laws.specs.Showable.{IsShowable, AreShowable}
 use Rattle.readback_laws.proofs.Scans.{both_true, not_true}
 use Rattle.readback_laws.proofs.Blanks.{AreMarks, one, two, three, MayName, nothing, a_name, head_some}
 use Rattle.readback_laws.proofs.Shaped.{shaped_row, is_proper, Heads, head_shape, pair_row, chain_row}
-use Rattle.readback_laws.proofs.Phrases.{Good, Operand, operand}
+use Rattle.readback_laws.proofs.Phrases.{Good, operand, phrase}
 use Rattle.readback_laws.proofs.Atoms.{number_good, negative_good, name_good, name_operand, string_good, blank_good, named_good, slot_good, slots_good}
 use Rattle.readback_laws.proofs.Joined.{AllGood, no_more, one_more, chain_shown, sum_shown, product_shown, negative_shown}
 use Rattle.readback_laws.proofs.Enclosed.{within, braces_good, brackets_good}
@@ -330,3 +339,85 @@ module _ (names : Names) (agree : IsNames names) (find : List ℕ → ℕ) (spel
       go : (t : Bool) → is_blank shape a ≡ t → InForm h (cons (symbol x) (cons a nil)) d (cond t (s.Marked s.Nothing) (s.Paired s.Naming))
       go false i = of_row {es = cons (symbol x) (cons a nil)} Builtin.Pattern e (naming_text x refl p.showable.0 p.found.0 p.items)
       go true i = of_row {es = cons (symbol x) (cons a nil)} Builtin.Pattern e (pattern_text x a d (blank_of a i p.showable.1.0 p.found.1.0) p.showable.0 p.found.0 (positive p))
+
+  named_form_good : (h : Tree) (es : Trees) (d : ℕ) → h ≡ name names Builtin.Pattern → Parts h es d → InForm h es d (named_form shape es)
+  named_form_good h nil d e p = in_brackets h nil d p
+  named_form_good h (cons a nil) d e p = in_brackets h (cons a nil) d p
+  named_form_good h (cons (symbol x) (cons a nil)) d e p = named_symbol h x a d e p
+  named_form_good h (cons (integer n) (cons a nil)) d e p = in_brackets h (cons (integer n) (cons a nil)) d p
+  named_form_good h (cons (string t) (cons a nil)) d e p = in_brackets h (cons (string t) (cons a nil)) d p
+  named_form_good h (cons (normal g fs) (cons a nil)) d e p = in_brackets h (cons (normal g fs) (cons a nil)) d p
+  named_form_good h (cons a (cons b (cons c es))) d e p = in_brackets h (cons a (cons b (cons c es))) d p
+
+  -- ---- every expression
+
+  shape_good : (sh : s.Shape) (h : Tree) (es : Trees) (d : ℕ) → Heads names h sh → Parts h es d → InForm h es d (fitted shape sh es)
+  shape_good s.List h es d hd p = of_row Builtin.List hd.is (braces_good names find (within names find (positive p) p.items))
+  shape_good s.Named h es d hd p = named_form_good h es d hd.is p
+  shape_good s.Times h es d hd p = times_form h es d hd.is p
+  shape_good s.Plus h es d hd p = plus_form h es d hd.is p
+  shape_good s.Not h es d hd p = not_form h es d hd.is p
+  shape_good s.Function h es d hd p = function_form h es d hd.is p
+  shape_good s.Other h es d hd p = in_brackets h es d p
+  shape_good (s.Blank m) h es d hd p = blank_form m h es d hd p
+  shape_good (s.Slot m) h es d hd p = slot_form m h es d hd p
+  shape_good (s.Pairs q) h es d hd p = pair_form q h es d hd.proper hd.is p
+  shape_good (s.Chains c) h es d hd p = chain_form c h es d hd.is p
+
+  form_good : (h : Tree) (es : Trees) (d : ℕ) → Parts h es d → InForm h es d (form_of shape h es)
+  form_good h es d p =
+      ⊎_elim (λ (o : shape_at shape h ≡ s.Other). in_form {h = h} {es = es} {d = d} _ _ (ap (λ (sh : s.Shape). fitted shape sh es) o) (in_brackets h es d p))
+      (λ (hd : Heads names h (shape_at shape h)). shape_good (shape_at shape h) h es d hd p) (head_shape names agree h)
+
+  mutual
+    good : (e : Tree) → IsShowable spelling e → IsFound find spelling e → GoodOf e
+    good (integer (pos n)) w f = number_good names find n 1 (ltb-true n (2 ^ 127) w) (omega arith)
+    good (integer (negsuc n)) w f = negative_good names find n 1 (ltb-true (suc n) (2 ^ 127) w) (omega arith)
+    good (string t) w f = string_good names find t 1 (omega arith)
+    good (symbol x) w f = name_good names find (symbol_text spelling x) x 1 w.is_name (leaf_is x w f) (omega arith)
+    good (normal h es) w f =
+        form_good h es (depth (normal h es))
+        (record { head = good h w.0 f.0; below = omega arith; items = all_good es w.1 f.1 (depth (normal h es)) (omega arith); showable = w.1; found = f.1 })
+
+    all_good : (es : Trees) → AreShowable spelling es → AreFound find spelling es → (d : ℕ) → depths es < d → AllGood names find d (show_all es) (elements es)
+    all_good nil w f d h = no_more
+    all_good (cons e es) w f d h = one_more (depth e) (good e w.0 f.0) (omega (arith, h)) (all_good es w.1 f.1 d (omega (arith, h)))
+
+  -- ---- the reading
+
+  none_whole : (x : Phrase) → WholeOf Phrase Tree (List Tree) (written names) nesting_limit [] x → ⊥
+  unfolding run finished
+  none_whole x w = not_read Phrase Tree (List Tree) (written names) [] (start_state Phrase Tree (List Tree) (written names)) x refl refl w
+
+  as_read : (ls : List Lexeme) (x : Phrase) → WholeOf Phrase Tree (List Tree) (written names) nesting_limit (terminals names find ls) x → LexemesRead names find ls x.expr
+  as_read [] x w = absurd (none_whole x w)
+  as_read (l ∷ ls) x w = (x, w, refl)
+
+  pub read_again : (e : Tree) → IsShowable spelling e → IsFound find spelling e → depth e ≤ 512 → Reads names find (input spelling shape e) e
+  unfolding nesting_limit
+  read_again e w f h =
+      let o = operand names find e 2 (show e) (depth e) (omega arith) (good e w f) in
+      let made = subst (λ (t : List ℕ). IsMadeOf t o.pieces) o.spelled (made_of o.pieces (o.cut [] tt)) in
+      record {
+        no_fault = made.no_fault;
+        read = subst (λ (ls : List Lexeme). LexemesRead names find ls e) (sym made.cut) (as_read (words o.pieces) (phrase names find e o.kind) (plain (o.reads nesting_limit 2 (omega (arith, h)) (le_refl 2))));
+      }
+
+mutual
+  all_found : (texts : List (List ℕ)) → AreDistinct texts → (e : Tree) → IsKept (length texts) e → IsFound (place_in texts) (by_texts texts) e
+  all_found texts distinct (integer n) k = tt
+  all_found texts distinct (string t) k = tt
+  all_found texts distinct (symbol x) k = found_at texts distinct x.base k
+  all_found texts distinct (normal h es) k = (all_found texts distinct h k.0, each_found texts distinct es k.1)
+
+  each_found : (texts : List (List ℕ)) → AreDistinct texts → (es : Trees) → AreKept (length texts) es → AreFound (place_in texts) (by_texts texts) es
+  each_found texts distinct nil k = tt
+  each_found texts distinct (cons e es) k = (all_found texts distinct e k.0, each_found texts distinct es k.1)
+
+pub input_is_read_again : InputIsReadAgain
+input_is_read_again names agree texts distinct e w = read_again names agree (place_in texts) (by_texts texts) e w.showable (all_found texts distinct e w.kept) w.shallow
+
+pub input_tells_apart : InputTellsApart
+input_tells_apart names agree texts distinct d e v w q =
+    one_reading names (place_in texts) (input (by_texts texts) (s.shape_in names) e) d e
+    (subst (λ (t : List ℕ). Reads names (place_in texts) t d) q (input_is_read_again names agree texts distinct d v)) (input_is_read_again names agree texts distinct e w)

@@ -1,7 +1,7 @@
 -- Atoms, blanks and slots as they are shown.
-use Rattle.std.proofs.Common.{◌≡◌, refl, sym, ap, ap₂, subst, ◌∙◌, ℕ, zero, suc, ◌+◌, ◌*◌, ◌^◌, ◌<◌, ◌≤◌, inl, min, Bool, true, false, List, [], ◌∷◌, ◌++◌, length, append-nil, get_or, true≢false, arith, eqb-true, ne_eqb, pos, negsuc, ℤ, ltb-true}
-use Rattle.std.specs.Prelude.{◌==◌, ◌&&◌, ◌||◌, not, ltb, codes}
-use Rattle.std.specs.Fmt.{decimal, signed_decimal}
+use Rattle.std.proofs.Common.{◌≡◌, refl, sym, ap, ◌∙◌, ℕ, zero, suc, ◌*◌, ◌^◌, ◌<◌, ◌≤◌, inl, min, Bool, true, false, List, [], ◌∷◌, ◌++◌, append-nil, true≢false, arith, eqb-true, pos, negsuc}
+use Rattle.std.specs.Prelude.{◌==◌}
+use Rattle.std.specs.Fmt.{decimal}
 use Rattle.std.proofs.lemmas.Fmt.{first_decimal, length-decimal-le}
 use Rattle.expr_tree.specs.declared.sym.Sym.{Sym}
 use Rattle.expr_tree.specs.Tree.{Tree, integer, string, symbol}
@@ -10,15 +10,15 @@ use Rattle.semantics.specs.Names.{Names, make}
 use Rattle.script_text.specs.Bytes.{is_digit, begins_name, in_name, is_name, all}
 use Rattle.script_text.specs.Full.{quoted}
 use Rattle.syntax.specs.Tokens.{Kind, Scan, Takes, scan}
-use Rattle.syntax.specs.Leaves.{name_leaf, blank_row, blank_head, named}
+use Rattle.syntax.specs.Leaves.{name_leaf, blank_row, blank_head}
 use Rattle.syntax.specs.Operators.{Prefix, leads_at}
-use Rattle.syntax.specs.Terminals.{Phrase, PhraseKind, Closed, NameToken, NumberToken, Open, Terminal, Word, Value, word_of, Start, sign_start, word_start}
-use Rattle.syntax.specs.Grammar.{PhraseOf, operand, leads}
-use Rattle.readback_laws.proofs.Pieces.{Piece, word, gap, bytes, AreCut, IsCut}
+use Rattle.syntax.specs.Terminals.{Phrase, PhraseKind, Closed, NameToken, NumberToken, Value, word_of, sign_start, word_start}
+use Rattle.syntax.specs.Grammar.{operand, leads}
+use Rattle.readback_laws.proofs.Pieces.{word, IsCut}
 use Rattle.readback_laws.proofs.Scans.{both_true, Ends}
 use Rattle.readback_laws.proofs.Leaves.{Numeral, numeral, number_cut, number_value, name_cut, string_cut, string_value}
 use Rattle.readback_laws.proofs.Blanks.{AreMarks, one, two, three, MayName, nothing, a_name as a_name_of, blank_cut, named_cut, blank_value, named_some, SlotNumeral, slot_cut, slots_cut, slot_value, slots_value}
-use Rattle.readback_laws.proofs.Phrases.{least_high, plainly, Operand, opens_then, no_dash_then, opens_well, Opens, Opener, opener, NoDash, least, Fits, closed, a_name, a_number, terms, Reading, as_term, phrase, Phrased, Minus, Negative, Sign, unsigned, low, signed, Good}
+use Rattle.readback_laws.proofs.Phrases.{least_high, plainly, Operand, opens_then, no_dash_then, opens_well, Opens, opener, NoDash, Fits, closed, a_name, a_number, Reading, as_term, phrase, Phrased, unsigned, signed, Good}
 
 -- ---- first bytes
 

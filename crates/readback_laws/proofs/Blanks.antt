@@ -1,11 +1,11 @@
 -- Blanks and slots: the text of each is one token, which stands for it.
-use Rattle.std.proofs.Common.{◌≡◌, ◌≢◌, refl, sym, ap, ap₂, subst, ◌∙◌, ℕ, zero, suc, ◌+◌, ◌^◌, ◌<◌, ◌≤◌, Bool, true, false, cond, List, [], ◌∷◌, ◌++◌, length, take, drop, get_or, append_assoc, append-nil, length-append, true≢false, arith, ne_eqb, eqb-true, leb-true, pos}
-use Rattle.std.specs.Prelude.{◌==◌, ◌&&◌, ◌||◌, leb, codes}
+use Rattle.std.proofs.Common.{◌≡◌, refl, sym, ap, ap₂, subst, ◌∙◌, ℕ, zero, suc, ◌+◌, ◌<◌, ◌≤◌, Bool, true, false, cond, List, [], ◌∷◌, ◌++◌, length, take, drop, get_or, append_assoc, append-nil, length-append, true≢false, arith, ne_eqb, eqb-true, pos}
+use Rattle.std.specs.Prelude.{◌==◌, ◌&&◌, ◌||◌, leb}
 use Rattle.std.proofs.lemmas.Bool.{lt-leb}
 use Rattle.expr_tree.specs.Tree.{Tree, integer}
 use Rattle.semantics.specs.declared.builtin.Builtin.{Builtin}
 use Rattle.semantics.specs.Names.{Names, make}
-use Rattle.script_text.specs.Bytes.{is_digit, begins_name, in_name, is_name, run, all, begins_with, number_after}
+use Rattle.script_text.specs.Bytes.{is_digit, begins_name, in_name, is_name, run, all, begins_with}
 use Rattle.syntax.specs.Tokens as tok
 use Rattle.syntax.specs.Leaves.{number_or_one, name_leaf, blank_row, blank_head, named, blank_leaf, slot_leaf}
 use Rattle.readback_laws.proofs.Pieces.{IsCut}

@@ -1,20 +1,20 @@
 -- Two or more operands under one operator.
-use Rattle.std.proofs.Common.{◌≡◌, refl, sym, ap, ap₂, subst, subst₂, ◌∙◌, ℕ, zero, suc, ◌+◌, ◌*◌, ◌<◌, ◌≤◌, min, Bool, true, false, cond, List, [], ◌∷◌, ◌++◌, append_assoc, append-nil, arith, le_refl}
-use Rattle.std.specs.Prelude.{◌==◌, ◌||◌, not, codes}
-use Rattle.expr_tree.specs.Tree.{Tree, call, elements, trees}
+use Rattle.std.proofs.Common.{◌≡◌, refl, sym, ap, ap₂, subst, subst₂, ◌∙◌, ℕ, zero, suc, ◌*◌, ◌<◌, ◌≤◌, min, Bool, true, false, cond, List, [], ◌∷◌, ◌++◌, append_assoc, append-nil, arith, le_refl}
+use Rattle.std.specs.Prelude.{◌||◌, not, codes}
+use Rattle.expr_tree.specs.Tree.{Tree, call}
 use Rattle.expr_tree.proofs.Trees.{elements-trees}
 use Rattle.semantics.specs.declared.builtin.Builtin.{Builtin}
 use Rattle.semantics.specs.Names.{Names, make, name}
 use Rattle.syntax.specs.Shapes as s
 use Rattle.syntax.specs.Tokens.{Kind, Scan, Takes, scan}
 use Rattle.syntax.specs.Operators.{Operator, Gives, infix_row, level_of, right_of, gives_of}
-use Rattle.syntax.specs.Terminals.{Phrase, PhraseKind, Open, Terminal, sign_start, sign_next, word_start, word_next, on_line}
-use Rattle.syntax.specs.Phrases.{chained, appended, joined, accepts_by, negated, is_open_in, chains_with, same_row, of_one_kind}
-use Rattle.syntax.specs.Grammar.{IsJoin, joins, sequence, PhraseOf, binary}
-use Rattle.readback_laws.proofs.Pieces.{Piece, word, gap, bytes, words, AreCut, bytes_then, cut_then}
+use Rattle.syntax.specs.Terminals.{Phrase, Open, Terminal, sign_next, word_next, on_line}
+use Rattle.syntax.specs.Phrases.{chained, appended, joined, accepts_by, is_open_in, chains_with, of_one_kind}
+use Rattle.syntax.specs.Grammar.{IsJoin, joins, sequence, binary}
+use Rattle.readback_laws.proofs.Pieces.{Piece, word, gap, bytes, AreCut, bytes_then, cut_then}
 use Rattle.readback_laws.proofs.Scans.{Ends}
-use Rattle.readback_laws.proofs.Joints.{Joint, product, sum, chain, joint_row, joint_level, joint_part, joint_op, Joins, joint, same_itself}
-use Rattle.readback_laws.proofs.Phrases.{Opens, Opener, opener, least, least_low, terms, Reading, as_term, terms_then, phrase, Phrased, Minus, Operand}
+use Rattle.readback_laws.proofs.Joints.{Joint, product, sum, chain, joint_row, joint_level, joint_part, joint_op, joint, same_itself}
+use Rattle.readback_laws.proofs.Phrases.{Opens, opener, least_low, terms, Reading, as_term, terms_then, phrase, Phrased, Minus, Operand}
 
 -- ---- what stands between the operands
 

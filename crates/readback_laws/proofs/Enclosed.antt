@@ -1,5 +1,5 @@
 -- Elements between brackets and braces.
-use Rattle.std.proofs.Common.{◌≡◌, refl, sym, ap, ap₂, subst, subst₂, ◌∙◌, ℕ, zero, suc, ◌+◌, ◌*◌, ◌<◌, ◌≤◌, inl, inr, min, Bool, true, false, List, [], ◌∷◌, ◌++◌, append_assoc, append-nil, arith, le_refl}
+use Rattle.std.proofs.Common.{◌≡◌, refl, sym, ap, ap₂, subst, subst₂, ◌∙◌, ℕ, zero, suc, ◌*◌, ◌<◌, ◌≤◌, inl, inr, List, [], ◌∷◌, ◌++◌, append_assoc, append-nil, arith, le_refl}
 use Rattle.std.specs.Prelude.{codes}
 use Rattle.expr_tree.specs.Tree.{Tree, call}
 use Rattle.semantics.specs.declared.builtin.Builtin.{Builtin}
@@ -8,11 +8,11 @@ use Rattle.script_text.specs.Bytes.{each_after}
 use Rattle.syntax.specs.Tokens.{Kind}
 use Rattle.syntax.specs.Terminals.{Phrase, Closed, Terminal, sign_start, sign_next, word_start, word_next, on_line}
 use Rattle.syntax.specs.Phrases.{written}
-use Rattle.syntax.specs.Grammar.{PhraseOf, braces, call as calls, plain, RowOf, one, more, ElementsOf, none, row}
+use Rattle.syntax.specs.Grammar.{braces, call as calls, plain, RowOf, one, more, ElementsOf, none, row}
 use Rattle.syntax.specs.Input.{Shown, at_level, all_at, together}
 use Rattle.readback_laws.proofs.Pieces.{Piece, word, gap, bytes, AreCut, bytes_then, cut_then}
 use Rattle.readback_laws.proofs.Scans.{Ends}
-use Rattle.readback_laws.proofs.Phrases.{Opens, NoDash, opens_then, no_dash_then, least_low, closed, terms, Reading, as_term, terms_then, phrase, Sign, unsigned, Good, Side, plainly, dashed, Operand, operand}
+use Rattle.readback_laws.proofs.Phrases.{Opens, NoDash, opens_then, no_dash_then, closed, terms, Reading, as_term, terms_then, phrase, unsigned, Good, Side, plainly, dashed, Operand, operand}
 use Rattle.readback_laws.proofs.Joined.{AllGood, no_more, one_more}
 
 module _ (names : Names) (find : List ℕ → ℕ) where

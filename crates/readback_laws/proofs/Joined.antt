@@ -1,8 +1,7 @@
 -- Sums, products and the other chains as they are shown.
-use Rattle.std.proofs.Common.{◌≡◌, refl, sym, ap, ap₂, subst, subst₂, ◌∙◌, ℕ, zero, suc, ◌+◌, ◌*◌, ◌<◌, ◌≤◌, inl, inr, min, Bool, true, false, cond, List, [], ◌∷◌, ◌++◌, append_assoc, append-nil, true≢false, arith, le_trans, le_refl, pos, negsuc}
-use Rattle.std.specs.Prelude.{◌==◌, codes, drop}
-use Rattle.std.specs.Fmt.{decimal}
-use Rattle.expr_tree.specs.Tree.{Tree, integer, string, symbol, normal, call, elements, trees}
+use Rattle.std.proofs.Common.{◌≡◌, refl, sym, ap, subst, ◌∙◌, ℕ, zero, suc, ◌*◌, ◌<◌, ◌≤◌, inl, inr, min, Bool, true, false, cond, List, [], ◌∷◌, ◌++◌, append-nil, true≢false, arith, le_refl, pos, negsuc}
+use Rattle.std.specs.Prelude.{codes, drop}
+use Rattle.expr_tree.specs.Tree.{Tree, integer, string, symbol, normal, call}
 use Rattle.expr_tree.proofs.Trees.{elements-trees}
 use Rattle.semantics.specs.declared.builtin.Builtin.{Builtin}
 use Rattle.semantics.specs.Names.{Names, make, name}
@@ -10,14 +9,13 @@ use Rattle.script_text.specs.Bytes.{each_after, begins_with}
 use Rattle.syntax.specs.Shapes as s
 use Rattle.syntax.specs.Tokens.{Kind, scan}
 use Rattle.syntax.specs.Operators.{Prefix, leads_at}
-use Rattle.syntax.specs.Terminals.{Phrase, PhraseKind, Closed, NumberToken, Open, Terminal, sign_start, word_start}
+use Rattle.syntax.specs.Terminals.{Phrase, PhraseKind, NumberToken, Open, Terminal, sign_start, word_start}
 use Rattle.syntax.specs.Phrases.{minus_one, led, negated, negated_elements, is_open_in, chains_with}
-use Rattle.syntax.specs.Grammar.{PhraseOf, leads}
+use Rattle.syntax.specs.Grammar.{leads}
 use Rattle.syntax.specs.Input.{Shown, at_level, all_at, together, term_after, terms_after, sum_text, factors, is_integer}
-use Rattle.readback_laws.proofs.Pieces.{Piece, word, bytes, AreCut}
-use Rattle.readback_laws.proofs.Scans.{Ends}
+use Rattle.readback_laws.proofs.Pieces.{word}
 use Rattle.readback_laws.proofs.Joints.{Joint, product, sum, chain, joint_row, joint_level, joint_part, joint, not_open, may_begin}
-use Rattle.readback_laws.proofs.Phrases.{Opens, NoDash, opens_then, no_dash_then, least, least_low, least_high, Fits, closed, a_name, a_number, open_in, looser, terms, Reading, as_term, phrase, Phrased, Minus, Negative, Sign, unsigned, low, signed, Good, Side, plainly, dashed, Operand, operand}
+use Rattle.readback_laws.proofs.Phrases.{Opens, NoDash, opens_then, no_dash_then, least_low, least_high, Fits, closed, a_name, a_number, open_in, looser, terms, Reading, as_term, phrase, Phrased, Minus, Sign, unsigned, low, signed, Good, Side, plainly, dashed, Operand, operand}
 use Rattle.readback_laws.proofs.Atoms.{minus_cut, number_phrased}
 use Rattle.readback_laws.proofs.Chains.{between, Follows, follow, subtract, AllFollow, finish, also, all_add, begin}
 

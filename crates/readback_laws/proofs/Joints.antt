@@ -1,11 +1,11 @@
 -- The operators that join two or more operands: a row of a looser level is not open in one of a tighter level.
-use Rattle.std.proofs.Common.{◌≡◌, refl, sym, ap, ap₂, ◌∙◌, ℕ, zero, suc, ◌<◌, ◌≤◌, Bool, true, false, List, [], ◌∷◌, map, true≢false, arith, eqb-true, ne_eqb, eq-eqb}
+use Rattle.std.proofs.Common.{◌≡◌, refl, sym, ap, ap₂, ◌∙◌, ℕ, zero, suc, ◌<◌, ◌≤◌, Bool, true, false, List, [], ◌∷◌, arith, eqb-true, eq-eqb}
 use Rattle.std.specs.Prelude.{◌==◌, ◌&&◌, ◌||◌, not}
 use Rattle.semantics.specs.declared.builtin.Builtin.{Builtin}
 use Rattle.semantics.specs.Builtin.{row_number}
 use Rattle.syntax.specs.Shapes as s
 use Rattle.syntax.specs.Operators.{Operator, Gives, infix_row, level_of, right_of, gives_of}
-use Rattle.syntax.specs.Terminals.{PhraseKind, Open}
+use Rattle.syntax.specs.Terminals.{Open}
 use Rattle.syntax.specs.Phrases.{same_row, is_open_in, is_comparison, is_sameness, of_one_kind, chains_with}
 use Rattle.readback_laws.proofs.Shaped.{chain_row}
 

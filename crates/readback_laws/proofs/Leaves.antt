@@ -1,17 +1,15 @@
 -- Numbers, names, strings, blanks and slots: the text of each is one token, which stands for it.
-use Rattle.std.proofs.Common.{◌≡◌, ◌≢◌, refl, sym, ap, ap₂, subst, ◌∙◌, ℕ, zero, suc, ◌+◌, ◌-◌, ◌*◌, ◌/◌, ◌%◌, ◌^◌, ◌<◌, ◌≤◌, Bool, true, false, cond, List, [], ◌∷◌, ◌++◌, length, take, drop, get_or, append_assoc, append-nil, length-append, true≢false, arith, ne_eqb, eqb-true, lt-ltb, le-leb, pos}
-use Rattle.std.specs.Prelude.{◌==◌, ◌&&◌, ◌||◌, leb, ltb, codes}
+use Rattle.std.proofs.Common.{◌≡◌, refl, sym, ap, ap₂, ◌∙◌, ℕ, zero, suc, ◌+◌, ◌-◌, ◌*◌, ◌/◌, ◌%◌, ◌^◌, ◌<◌, ◌≤◌, Bool, true, false, List, [], ◌∷◌, ◌++◌, length, take, drop, append_assoc, length-append, true≢false, arith, eqb-true, lt-ltb, le-leb, pos}
+use Rattle.std.specs.Prelude.{◌==◌, ◌&&◌, ltb}
 use Rattle.std.specs.Fmt.{decimal}
-use Rattle.std.proofs.lemmas.Fmt.{decimal_by_steps_wide, first_decimal, length-decimal-le}
-use Rattle.std.proofs.lemmas.Bool.{lt-leb}
-use Rattle.expr_tree.specs.declared.sym.Sym.{Sym}
-use Rattle.expr_tree.specs.Tree.{Tree, integer, string, symbol}
+use Rattle.std.proofs.lemmas.Fmt.{decimal_by_steps_wide}
+use Rattle.expr_tree.specs.Tree.{integer, string}
 use Rattle.script_text.specs.Bytes.{is_digit, begins_name, in_name, is_name, run, all, begins_with, number_after}
 use Rattle.script_text.specs.Full.{escaped, escaped_by, all_escaped, quoted}
 use Rattle.syntax.specs.Tokens as tok
-use Rattle.syntax.specs.Leaves.{unescaped, unescaped_byte, number_or_one, number_leaf, string_leaf}
+use Rattle.syntax.specs.Leaves.{unescaped, number_leaf, string_leaf}
 use Rattle.readback_laws.proofs.Pieces.{IsCut}
-use Rattle.readback_laws.proofs.Scans.{both_true, Ends, ends_word, ender, Stops, run_all, stops_name, stops_digit, scan_digit, scan_name}
+use Rattle.readback_laws.proofs.Scans.{both_true, Ends, ender, Stops, run_all, stops_name, stops_digit, scan_digit, scan_name}
 
 pub front_taken : (xs ys : List ℕ) → take (length xs) (xs ++ ys) ≡ xs
 front_taken [] ys = refl

@@ -1,5 +1,5 @@
 -- Two operands, and the operators of one operand, as they are shown.
-use Rattle.std.proofs.Common.{◌≡◌, refl, sym, ap, ap₂, subst, subst₂, ◌∙◌, ℕ, zero, suc, ◌+◌, ◌*◌, ◌<◌, ◌≤◌, ◌⊎◌, inl, inr, ⊎_elim, min, Bool, true, false, List, [], ◌∷◌, ◌++◌, append_assoc, append-nil, true≢false, arith}
+use Rattle.std.proofs.Common.{◌≡◌, refl, sym, ap, ap₂, subst, subst₂, ◌∙◌, ℕ, zero, suc, ◌*◌, ◌<◌, ◌≤◌, ◌⊎◌, inl, inr, ⊎_elim, min, Bool, true, false, List, [], ◌∷◌, ◌++◌, append_assoc, true≢false, arith}
 use Rattle.std.specs.Prelude.{◌==◌, codes}
 use Rattle.expr_tree.specs.Tree.{Tree}
 use Rattle.semantics.specs.declared.builtin.Builtin.{Builtin}
@@ -10,11 +10,11 @@ use Rattle.syntax.specs.Tokens.{Kind, Scan, Takes, scan}
 use Rattle.syntax.specs.Operators.{Operator, Prefix, Postfix, infix_row, level_of, right_of, gives_of, leads_at, trails_at}
 use Rattle.syntax.specs.Terminals.{Phrase, PhraseKind, Closed, NameToken, Terminal, sign_start, sign_next, word_start, word_next, on_line}
 use Rattle.syntax.specs.Phrases.{of, joined, accepts_by}
-use Rattle.syntax.specs.Grammar.{PhraseOf, IsJoin, joins, binary, leads, trails}
+use Rattle.syntax.specs.Grammar.{IsJoin, joins, binary, leads, trails}
 use Rattle.readback_laws.proofs.Pieces.{Piece, word, gap, bytes, AreCut, bytes_then, cut_then}
 use Rattle.readback_laws.proofs.Scans.{Ends, ender}
 use Rattle.readback_laws.proofs.Shaped.{pair_row, is_proper}
-use Rattle.readback_laws.proofs.Phrases.{Opens, opener, NoDash, opens_then, no_dash_then, least, least_low, closed, terms, Reading, as_term, terms_then, phrase, Sign, unsigned, low, Good, Operand}
+use Rattle.readback_laws.proofs.Phrases.{Opens, opener, NoDash, opens_then, no_dash_then, least, least_low, closed, terms, Reading, as_term, terms_then, phrase, unsigned, low, Good, Operand}
 use Rattle.readback_laws.proofs.Enclosed.{no_dash_side}
 
 abbrev pub pair_op : s.Pair → Operator

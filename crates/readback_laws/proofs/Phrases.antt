@@ -2,19 +2,18 @@
 --     Phrased              a text that is a phrase
 --     Good, Operand        the text of an expression at its own level, and at the level that is asked of it
 --     Sign, Side           what such a text is behind its minus sign, if it has one
-use Rattle.std.proofs.Common.{◌≡◌, refl, sym, ap, ap₂, subst, ◌∙◌, ℕ, zero, suc, ◌+◌, ◌*◌, ◌<◌, ◌≤◌, ◌⊎◌, inl, inr, Bool, true, false, cond, List, [], ◌∷◌, ◌++◌, map, append_assoc, append-nil, true≢false, arith, le_trans, le_refl, ltb-true, ltb-false, eqb-true, eq-eqb, ◌^◌, negsuc}
+use Rattle.std.proofs.Common.{◌≡◌, refl, sym, ap, subst, ◌∙◌, ℕ, zero, suc, ◌*◌, ◌<◌, ◌≤◌, ◌⊎◌, inl, inr, Bool, true, false, cond, List, [], ◌∷◌, ◌++◌, append_assoc, true≢false, arith, le_trans, le_refl, ltb-false, eqb-true, eq-eqb, ◌^◌, negsuc}
 use Rattle.std.proofs.lemmas.List.{map-append}
-use Rattle.std.specs.Prelude.{◌==◌, ◌&&◌, ◌||◌, ltb, not, codes}
+use Rattle.std.specs.Prelude.{◌==◌, ◌&&◌, ◌||◌, ltb, not}
 use Rattle.std.specs.Fmt.{decimal}
 use Rattle.expr_tree.specs.Tree.{Tree, integer}
 use Rattle.semantics.specs.Names.{Names}
 use Rattle.syntax.specs.Tokens.{Kind, Takes, scan}
-use Rattle.syntax.specs.Leaves.{Lexeme}
 use Rattle.syntax.specs.Terminals.{Phrase, PhraseKind, Closed, NameToken, NumberToken, Open, Terminal, terminal, terminals, sign_start, sign_next, word_start, word_next, on_line}
 use Rattle.syntax.specs.Phrases.{written, negated}
 use Rattle.syntax.specs.Grammar.{PhraseOf, group, plain}
 use Rattle.syntax.specs.Input.{Shown, at_level, is_integer}
-use Rattle.readback_laws.proofs.Pieces.{Piece, word, gap, bytes, words, AreCut, bytes_then, words_then, cut_then}
+use Rattle.readback_laws.proofs.Pieces.{Piece, word, bytes, words, AreCut, bytes_then, words_then, cut_then}
 use Rattle.readback_laws.proofs.Scans.{both_true, not_true, Ends, scan_is, scan_by}
 use Rattle.readback_laws.proofs.Joints.{Joint, joint_row, joint_level}
 

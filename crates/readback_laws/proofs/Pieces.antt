@@ -1,7 +1,7 @@
 -- A text as words with single spaces between them. Where each word is cut in front of what follows it, the words are the lexemes.
-use Rattle.std.proofs.Common.{◌≡◌, refl, sym, ap, ap₂, subst, ◌∙◌, ℕ, zero, suc, ◌+◌, ◌-◌, Bool, true, false, List, [], ◌∷◌, ◌++◌, length, take, drop, append_assoc, append-nil, length-append, Option, Some, None, pred, arith}
+use Rattle.std.proofs.Common.{◌≡◌, refl, sym, ap, ap₂, subst, ◌∙◌, ℕ, suc, ◌+◌, ◌-◌, Bool, true, false, List, [], ◌∷◌, ◌++◌, length, take, drop, append_assoc, append-nil, length-append, Some, None, pred, arith}
 use Rattle.std.specs.Prelude.{◌==◌}
-use Rattle.syntax.specs.Tokens.{Kind, Token, Scan, Takes, Skips, Faults, LexFault, Lexed, scan, and_token, lex_from, lex, token_text}
+use Rattle.syntax.specs.Tokens.{Kind, Token, Scan, Takes, Skips, Faults, Lexed, scan, and_token, lex_from, lex, token_text}
 use Rattle.syntax.specs.Leaves.{Lexeme, has_feed, lexemes_after, lexemes}
 
 pub data Piece : Type 0 where

@@ -1,20 +1,20 @@
 -- Expressions whose input form is read again, computed; and the least integer, whose input form is not.
-use Rattle.std.proofs.Common.{◌≡◌, refl, ℕ, zero, suc, ◌+◌, ◌-◌, ◌^◌, List, [], ◌∷◌, ◌++◌, map, Option, Some, None, pos, negsuc}
+use Rattle.std.proofs.Common.{◌≡◌, refl, sym, ◌∙◌, ℕ, zero, suc, ◌+◌, ◌-◌, ◌^◌, List, [], ◌∷◌, ◌++◌, map, Option, Some, None, pos, negsuc}
 use Rattle.std.specs.Prelude.{codes, length}
 use Rattle.std.specs.Fmt.{digits}
-use Rattle.expr_tree.specs.declared.sym.Sym.{Sym}
 use Rattle.expr_tree.specs.Tree.{Tree, integer, string, symbol, call}
 use Rattle.semantics.specs.declared.builtin.Builtin.{Builtin}
 use Rattle.semantics.specs.Builtin.{row_number, rows}
 use Rattle.semantics.specs.Names.{Names, make}
 use Rattle.semantics.specs.Texts.{row_text}
-use Rattle.script_text.specs.Spelling.{Spelling, by_texts, place_in}
+use Rattle.script_text.specs.Spelling.{by_texts, place_in}
 use Rattle.syntax.specs.Input.{input}
 use Rattle.syntax.specs.Shapes.{shape_in}
 use Rattle.syntax.specs.Tokens.{LexFault, WideNumber, lex}
 use Rattle.syntax.specs.Operators.{infix_row, level_of, right_of, gives_of, tags_of, leads_at, trails_at}
 use Rattle.syntax.specs.Terminals.{sign_start, sign_next, word_start, word_next, on_line}
 use Rattle.syntax.specs.Grammar.{nesting_limit}
+use Rattle.syntax.specs.Reads.{Reads}
 use Rattle.syntax.proofs.Reader.{frame_level, level_at, completed, popped, reduce, push, begins, begins_in, only_at, attached, tag_on_top, joined, separated, closes, made, closed_elements, closed_group, closed, goes_on, next_level, follows_phrase, follows_semicolon, part_opened, follows_opening, follows_half, follows, run, finished}
 use Rattle.syntax.proofs.Read.{parsed}
 
@@ -30,23 +30,23 @@ names = record { place = row_number; role = row_at rows }
 abbrev texts : List (List ℕ)
 texts = map row_text rows ++ (codes "a" ∷ codes "b" ∷ codes "c" ∷ codes "f" ∷ codes "x" ∷ [])
 
-abbrev sym : ℕ → Tree
-sym n = symbol (record { base = length rows + n; number = 0 })
+abbrev other : ℕ → Tree
+other n = symbol (record { base = length rows + n; number = 0 })
 
 abbrev a' : Tree
-a' = sym 0
+a' = other 0
 
 abbrev b' : Tree
-b' = sym 1
+b' = other 1
 
 abbrev c' : Tree
-c' = sym 2
+c' = other 2
 
 abbrev f' : Tree
-f' = sym 3
+f' = other 3
 
 abbrev x' : Tree
-x' = sym 4
+x' = other 4
 
 abbrev int : ℕ → Tree
 int k = integer (pos k)
@@ -107,7 +107,13 @@ operators_again : map again operators ≡ map as_it_is operators
 unfolding digits frame_level level_at completed popped reduce push begins begins_in only_at attached tag_on_top joined separated closes made closed_elements closed_group closed goes_on next_level follows_phrase follows_semicolon part_opened follows_opening follows_half follows run finished infix_row level_of right_of gives_of tags_of leads_at trails_at sign_start sign_next word_start word_next on_line nesting_limit
 operators_again = refl
 
+abbrev least : Tree
+least = integer (negsuc (2 ^ 127 - 1))
+
 -- the digits behind its sign are too large for a number token
-the_least_integer : (lex (text (integer (negsuc (2 ^ 127 - 1))))).fault ≡ Some (WideNumber 1)
+least_faults : (lex (text least)).fault ≡ Some (WideNumber 1)
 unfolding digits
-the_least_integer = refl
+least_faults = refl
+
+the_least_integer_is_not_read : (find : List ℕ → ℕ) (e : Tree) → ¬ Reads names find (text least) e
+the_least_integer_is_not_read find e r = let q : None ≡ Some (WideNumber 1) = sym r.no_fault ∙ least_faults in cc

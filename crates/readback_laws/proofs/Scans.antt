@@ -1,6 +1,6 @@
 -- What stands at the front of a text, by the kind of its first byte.
-use Rattle.std.proofs.Common.{◌≡◌, ◌≢◌, refl, sym, ap, subst, ◌∙◌, ℕ, zero, suc, ◌+◌, ◌<◌, ◌≤◌, ◌⊎◌, inl, inr, ⊎_elim, Bool, true, false, cond, List, [], ◌∷◌, ◌++◌, length, drop, true≢false, arith, ne_eqb, eqb-true, leb-true, le-leb}
-use Rattle.std.specs.Prelude.{◌==◌, ◌&&◌, ◌||◌, leb, not, codes, pred}
+use Rattle.std.proofs.Common.{◌≡◌, ◌≢◌, refl, sym, ap, ◌∙◌, ℕ, zero, suc, ◌≤◌, ◌⊎◌, inl, inr, ⊎_elim, Bool, true, false, List, [], ◌∷◌, ◌++◌, length, drop, true≢false, arith, ne_eqb, eqb-true, leb-true, le-leb}
+use Rattle.std.specs.Prelude.{◌==◌, ◌&&◌, ◌||◌, leb, not, codes}
 use Rattle.std.proofs.lemmas.Bool.{lt-leb}
 use Rattle.script_text.specs.Bytes.{is_letter, is_digit, begins_name, in_name, is_white, run, all, begins_with}
 use Rattle.syntax.specs.Signs.{signs}

@@ -1,6 +1,6 @@
 -- Which row has a shape, and that a head with a shape is the row's symbol.
-use Rattle.std.proofs.Common.{◌≡◌, refl, sym, ap, ◌∙◌, ℕ, ◌⊎◌, inl, inr, Bool, true, false, Option, Some, None, true≢false, eqb-true}
-use Rattle.std.specs.Prelude.{◌==◌, ◌&&◌}
+use Rattle.std.proofs.Common.{◌≡◌, refl, sym, ap, ◌∙◌, ◌⊎◌, inl, inr, Bool, true, false, Option, Some, None, eqb-true}
+use Rattle.std.specs.Prelude.{◌==◌}
 use Rattle.expr_tree.specs.declared.sym.Sym.{Sym}
 use Rattle.expr_tree.specs.Tree.{Tree, integer, string, symbol, normal}
 use Rattle.semantics.specs.declared.builtin.Builtin.{Builtin}

@@ -1,2 +1,14 @@
 //! Laws of input form. Each function here has no code: its contract is a law.
 #![tactic(auto)]
+
+ghost use Rattle.readback_laws.specs.Laws.{InputIsReadAgain, InputTellsApart};
+
+/// What input form shows is read as the same expression again.
+pub fn input_form_is_read_again()
+    ensures law { InputIsReadAgain }
+{}
+
+/// Two expressions with one input form are one expression.
+pub fn input_forms_tell_expressions_apart()
+    ensures law { InputTellsApart }
+{}
