@@ -21,7 +21,7 @@ use Rattle.syntax.specs.Reads.{Reads, LexemesRead}
 use Rattle.syntax.proofs.Read.{one_reading}
 use Rattle.syntax.proofs.Reader.{run, finished, start_state, not_read}
 use Rattle.readback_laws.specs.Laws.{InputIsReadAgain, InputTellsApart}
-use Rattle.readback_laws.proofs.Pieces.{words, IsMadeOf, made_of}
+use Rattle.readback_laws.proofs.Pieces.{Piece, bytes, words, AreCut, IsMadeOf, made_of}
 use Rattle.syntax.specs.Shapes as s
 use Rattle.syntax.specs.Phrases.{minus_one, written}
 use Rattle.syntax.specs.Input.{Shown, input, at_level, together, form_level, form_text, fitted, form_of, shown_as, shape_at, unless_brackets, is_integer, is_minus_one, symbol_at_most, slot_number, product_form, blank_shape, is_blank, named_form, shown, all_shown}
@@ -403,14 +403,33 @@ module _ (names : Names) (agree : IsNames names) (find : List ℕ → ℕ) (spel
         read = subst (λ (ls : List Lexeme). LexemesRead names find ls e) (sym made.cut) (as_read (words o.pieces) (phrase names find e o.kind) (plain (o.reads nesting_limit 2 (omega (arith, h)) (le_refl 2))));
       }
 
+  -- the pieces of the text that is shown, at least one of which is a word
+  pub record Shows (e : Tree) : Type 0 where
+    pub pieces : List Piece
+    pub spelled : bytes pieces ≡ input spelling shape e
+    pub cut : AreCut pieces []
+    pub some : words pieces ≡ [] → ⊥
+
+  pub shows : (e : Tree) → IsShowable spelling e → IsFound find spelling e → depth e ≤ 512 → Shows e
+  unfolding nesting_limit
+  shows e w f h =
+      let o = operand names find e 2 (show e) (depth e) (omega arith) (good e w f) in
+      record {
+        pieces = o.pieces;
+        spelled = o.spelled;
+        cut = o.cut [] tt;
+        some = λ n. none_whole (phrase names find e o.kind)
+            (subst (λ (ls : List Lexeme). WholeOf Phrase Tree (List Tree) (written names) nesting_limit (terminals names find ls) (phrase names find e o.kind)) n (plain (o.reads nesting_limit 2 (omega (arith, h)) (le_refl 2))));
+      }
+
 mutual
-  all_found : (texts : List (List ℕ)) → AreDistinct texts → (e : Tree) → IsKept (length texts) e → IsFound (place_in texts) (by_texts texts) e
+  pub all_found : (texts : List (List ℕ)) → AreDistinct texts → (e : Tree) → IsKept (length texts) e → IsFound (place_in texts) (by_texts texts) e
   all_found texts distinct (integer n) k = tt
   all_found texts distinct (string t) k = tt
   all_found texts distinct (symbol x) k = found_at texts distinct x.base k
   all_found texts distinct (normal h es) k = (all_found texts distinct h k.0, each_found texts distinct es k.1)
 
-  each_found : (texts : List (List ℕ)) → AreDistinct texts → (es : Trees) → AreKept (length texts) es → AreFound (place_in texts) (by_texts texts) es
+  pub each_found : (texts : List (List ℕ)) → AreDistinct texts → (es : Trees) → AreKept (length texts) es → AreFound (place_in texts) (by_texts texts) es
   each_found texts distinct nil k = tt
   each_found texts distinct (cons e es) k = (all_found texts distinct e k.0, each_found texts distinct es k.1)
 

@@ -120,7 +120,7 @@ named_cut {ms} {h} {k} (c ∷ cs) rest n m w e =
 
 -- ---- what blanks stand for
 
-names_all : (x : List ℕ) → is_name x ≡ true → all in_name x ≡ true
+pub names_all : (x : List ℕ) → is_name x ≡ true → all in_name x ≡ true
 names_all [] n = absurd (true≢false (sym n))
 names_all (c ∷ cs) n =
     let both = both_true (begins_name c) (all in_name cs) n in

@@ -12,3 +12,4 @@ mod Joined
 mod Enclosed
 mod Pairs
 mod Again
+mod OneCell

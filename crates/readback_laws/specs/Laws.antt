@@ -2,9 +2,11 @@
 --     IsShown              the expression can be shown and read: its depth, its integers, and its symbols by the texts
 --     InputIsReadAgain     its input form is read as the expression
 --     InputTellsApart      two of them with one input form are one
-use Rattle.std.specs.Prelude.{◌≡◌, ℕ, ◌≤◌, List, length}
+--     InputIsOneCell       as a script, its input form is one cell
+use Rattle.std.specs.Prelude.{◌≡◌, ℕ, ◌≤◌, List, [], ◌∷◌, length}
 use Rattle.expr_tree.specs.Tree.{Tree, depth}
 use Rattle.semantics.specs.Names.{Names, IsNames}
+use Rattle.script_text.specs.Cells.{cells}
 use Rattle.script_text.specs.Spelling.{by_texts, place_in}
 use Rattle.script_text.specs.Laws.{AreDistinct, IsKept}
 use Rattle.syntax.specs.Shapes.{shape_in}
@@ -27,3 +29,8 @@ abbrev pub InputTellsApart : Type 0
 InputTellsApart =
     (names : Names) → IsNames names → (texts : List (List ℕ)) → AreDistinct texts → (d e : Tree) → IsShown texts d → IsShown texts e
     → input (by_texts texts) (shape_in names) d ≡ input (by_texts texts) (shape_in names) e → d ≡ e
+
+abbrev pub InputIsOneCell : Type 0
+InputIsOneCell =
+    (names : Names) → IsNames names → (texts : List (List ℕ)) → AreDistinct texts → (e : Tree) → IsShown texts e
+    → cells (input (by_texts texts) (shape_in names) e) ≡ input (by_texts texts) (shape_in names) e ∷ []

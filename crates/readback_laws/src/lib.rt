@@ -1,7 +1,7 @@
 //! Laws of input form. Each function here has no code: its contract is a law.
 #![tactic(auto)]
 
-ghost use Rattle.readback_laws.specs.Laws.{InputIsReadAgain, InputTellsApart};
+ghost use Rattle.readback_laws.specs.Laws.{InputIsOneCell, InputIsReadAgain, InputTellsApart};
 
 /// What input form shows is read as the same expression again.
 pub fn input_form_is_read_again()
@@ -11,4 +11,9 @@ pub fn input_form_is_read_again()
 /// Two expressions with one input form are one expression.
 pub fn input_forms_tell_expressions_apart()
     ensures law { InputTellsApart }
+{}
+
+/// An input form is one line with something on it, so a script of it alone has one cell.
+pub fn an_input_form_is_one_cell()
+    ensures law { InputIsOneCell }
 {}
