@@ -1,26 +1,26 @@
 -- What input form shows is read again.
-use Rattle.std.proofs.Common.{◌≡◌, refl, sym, ap, ap₂, subst, subst₂, ◌∙◌, ℕ, suc, ◌+◌, ◌^◌, ◌<◌, ◌≤◌, ◌⊎◌, inl, inr, ⊎_elim, Bool, true, false, cond, List, [], ◌∷◌, ◌++◌, length, append-nil, true≢false, arith, ne_eqb, eqb-true, le-leb, leb-true, ltb-true, le_refl, pos, negsuc}
+use Rattle.std.proofs.Common.{◌≡◌, refl, sym, ap, ap₂, subst, subst₂, ◌∙◌, ℕ, suc, ◌+◌, ◌^◌, ◌<◌, ◌≤◌, ◌⊎◌, inl, inr, ⊎_elim, Bool, true, false, cond, List, [], ◌∷◌, ◌++◌, append-nil, true≢false, arith, ne_eqb, eqb-true, le-leb, leb-true, ltb-true, le_refl, pos, negsuc}
 use Rattle.std.specs.Prelude.{◌==◌, ◌&&◌, leb, not, codes}
 use Rattle.std.specs.Fmt.{decimal}
 use Rattle.expr_tree.specs.declared.sym.Sym.{Sym}
 use Rattle.expr_tree.specs.Tree.{Tree, Trees, integer, string, symbol, normal, nil, cons, elements, count, depth, depths}
 use Rattle.expr_tree.proofs.Trees.{trees-elements}
 use Rattle.semantics.specs.declared.builtin.Builtin.{Builtin}
-use Rattle.semantics.specs.Names.{Names, IsNames, make, name}
+use Rattle.semantics.specs.Names.{Names, make, name}
 use Rattle.script_text.specs.Spelling.{Spelling, symbol_text}
 use Rattle.script_text.specs.FullForm.{IsSpelled}
 use Rattle.script_text.specs.Reader.{symbol_of}
 use Rattle.script_text.proofs.Again.{IsFound, AreFound}
 use Rattle.script_text.specs.Spelling.{by_texts, place_in}
-use Rattle.script_text.specs.Laws.{AreDistinct, IsKept, AreKept}
-use Rattle.script_text.proofs.Unique.{found_at}
+use Rattle.semantics.specs.Texts.{names_of}
 use Rattle.syntax.specs.Leaves.{Lexeme, name_leaf, blank_row, blank_head}
 use Rattle.syntax.specs.Terminals.{Phrase, terminals}
 use Rattle.syntax.specs.Grammar.{WholeOf, plain, nesting_limit}
 use Rattle.syntax.specs.Reads.{Reads, LexemesRead}
 use Rattle.syntax.proofs.Read.{one_reading}
 use Rattle.syntax.proofs.Reader.{run, finished, start_state, not_read}
-use Rattle.readback_laws.specs.Laws.{InputIsReadAgain, InputTellsApart}
+use Rattle.readback_laws.specs.Laws.{shown_by, InputIsReadAgain, InputTellsApart}
+use Rattle.readback_laws.proofs.Named.{placed, all_found}
 use Rattle.readback_laws.proofs.Pieces.{Piece, bytes, words, AreCut, IsMadeOf, made_of}
 use Rattle.syntax.specs.Shapes as s
 use Rattle.syntax.specs.Phrases.{minus_one, written}
@@ -28,7 +28,7 @@ use Rattle.syntax.specs.Input.{Shown, input, at_level, together, form_level, for
 use Rattle.readback_laws.specs.Showable.{IsShowable, AreShowable}
 use Rattle.readback_laws.proofs.Scans.{both_true, not_true}
 use Rattle.readback_laws.proofs.Blanks.{AreMarks, one, two, three, MayName, nothing, a_name, head_some}
-use Rattle.readback_laws.proofs.Shaped.{shaped_row, is_proper, Heads, head_shape, pair_row, chain_row}
+use Rattle.readback_laws.proofs.Shaped.{Placed, shaped_row, is_proper, Heads, head_shape, pair_row, chain_row}
 use Rattle.readback_laws.proofs.Phrases.{Good, operand, phrase}
 use Rattle.readback_laws.proofs.Atoms.{number_good, negative_good, name_good, name_operand, string_good, blank_good, named_good, slot_good, slots_good}
 use Rattle.readback_laws.proofs.Joined.{AllGood, no_more, one_more, chain_shown, sum_shown, product_shown, negative_shown}
@@ -91,7 +91,7 @@ marked s.Hash e = absurd (true≢false (sym e))
 marked s.Hashes e = absurd (true≢false (sym e))
 marked s.Nothing e = absurd (true≢false (sym e))
 
-module _ (names : Names) (agree : IsNames names) (find : List ℕ → ℕ) (spelling : Spelling) where
+module _ (names : Names) (agree : Placed names) (find : List ℕ → ℕ) (spelling : Spelling) where
   abbrev shape : Sym → s.Shape
   shape = s.shape_in names
 
@@ -422,21 +422,10 @@ module _ (names : Names) (agree : IsNames names) (find : List ℕ → ℕ) (spel
             (subst (λ (ls : List Lexeme). WholeOf Phrase Tree (List Tree) (written names) nesting_limit (terminals names find ls) (phrase names find e o.kind)) n (plain (o.reads nesting_limit 2 (omega (arith, h)) (le_refl 2))));
       }
 
-mutual
-  pub all_found : (texts : List (List ℕ)) → AreDistinct texts → (e : Tree) → IsKept (length texts) e → IsFound (place_in texts) (by_texts texts) e
-  all_found texts distinct (integer n) k = tt
-  all_found texts distinct (string t) k = tt
-  all_found texts distinct (symbol x) k = found_at texts distinct x.base k
-  all_found texts distinct (normal h es) k = (all_found texts distinct h k.0, each_found texts distinct es k.1)
-
-  pub each_found : (texts : List (List ℕ)) → AreDistinct texts → (es : Trees) → AreKept (length texts) es → AreFound (place_in texts) (by_texts texts) es
-  each_found texts distinct nil k = tt
-  each_found texts distinct (cons e es) k = (all_found texts distinct e k.0, each_found texts distinct es k.1)
-
 pub input_is_read_again : InputIsReadAgain
-input_is_read_again names agree texts distinct e w = read_again names agree (place_in texts) (by_texts texts) e w.showable (all_found texts distinct e w.kept) w.shallow
+input_is_read_again texts distinct e w = read_again (names_of texts) (placed texts distinct) (place_in texts) (by_texts texts) e w.showable (all_found texts distinct e w.kept) w.shallow
 
 pub input_tells_apart : InputTellsApart
-input_tells_apart names agree texts distinct d e v w q =
-    one_reading names (place_in texts) (input (by_texts texts) (s.shape_in names) e) d e
-    (subst (λ (t : List ℕ). Reads names (place_in texts) t d) q (input_is_read_again names agree texts distinct d v)) (input_is_read_again names agree texts distinct e w)
+input_tells_apart texts distinct d e v w q =
+    one_reading (names_of texts) (place_in texts) (shown_by texts e) d e
+    (subst (λ (t : List ℕ). Reads (names_of texts) (place_in texts) t d) q (input_is_read_again texts distinct d v)) (input_is_read_again texts distinct e w)

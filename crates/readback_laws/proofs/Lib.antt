@@ -11,5 +11,7 @@ mod Atoms
 mod Joined
 mod Enclosed
 mod Pairs
+mod Named
 mod Again
 mod OneCell
+mod Witness

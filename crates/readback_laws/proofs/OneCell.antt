@@ -8,13 +8,15 @@ use Rattle.script_text.specs.Bytes.{is_digit, in_name, is_space, is_white, all, 
 use Rattle.script_text.specs.Cells.{lines, in_first, is_blank, and_line, runs, all_runs, cell_text, cells}
 use Rattle.script_text.specs.Spelling.{Spelling, symbol_text}
 use Rattle.script_text.specs.Full.{escaped, escaped_by, all_escaped, quoted}
+use Rattle.semantics.specs.Texts.{names_of}
 use Rattle.syntax.specs.Leaves.{has_feed}
 use Rattle.syntax.specs.Shapes as s
 use Rattle.syntax.specs.Tokens as tok
 use Rattle.syntax.specs.Input.{Shown, at_level, all_at, together, term_after, terms_after, sum_text, factors, negative_text, pair_text, form_text, form_of, shown, all_shown, input}
 use Rattle.script_text.specs.Spelling.{by_texts, place_in}
-use Rattle.readback_laws.specs.Laws.{InputIsOneCell}
-use Rattle.readback_laws.proofs.Again.{shows, all_found}
+use Rattle.readback_laws.specs.Laws.{shown_by, InputIsOneCell}
+use Rattle.readback_laws.proofs.Again.{shows}
+use Rattle.readback_laws.proofs.Named.{placed, all_found}
 use Rattle.readback_laws.specs.Showable.{IsShowable, AreShowable}
 use Rattle.readback_laws.proofs.Pieces.{Piece, word, gap, bytes, words, AreCut}
 use Rattle.readback_laws.proofs.Scans.{both_true, or_false, scan_is, scan_by}
@@ -224,7 +226,6 @@ one_cell t f b =
     ∙ ap (λ (u : List ℕ). u ∷ []) (append-nil t)
 
 pub input_is_one_cell : InputIsOneCell
-input_is_one_cell names agree texts distinct e w =
-    let p = shows names agree (place_in texts) (by_texts texts) e w.showable (all_found texts distinct e w.kept) w.shallow in
-    one_cell (input (by_texts texts) (s.shape_in names) e) (input_feedless (by_texts texts) (s.shape_in names) e w.showable)
-    (subst (λ (t : List ℕ). is_blank t ≡ false) p.spelled (pieces_solid p.pieces [] p.cut p.some))
+input_is_one_cell texts distinct e w =
+    let p = shows (names_of texts) (placed texts distinct) (place_in texts) (by_texts texts) e w.showable (all_found texts distinct e w.kept) w.shallow in
+    one_cell (shown_by texts e) (input_feedless (by_texts texts) (s.shape_in (names_of texts)) e w.showable) (subst (λ (t : List ℕ). is_blank t ≡ false) p.spelled (pieces_solid p.pieces [] p.cut p.some))

@@ -1,15 +1,14 @@
 -- Expressions whose input form is read again, computed; and the least integer, whose input form is not.
-use Rattle.std.proofs.Common.{◌≡◌, refl, sym, ◌∙◌, ℕ, zero, suc, ◌+◌, ◌-◌, ◌^◌, List, [], ◌∷◌, ◌++◌, map, Option, Some, None, pos, negsuc}
+use Rattle.std.proofs.Common.{◌≡◌, refl, sym, ◌∙◌, ℕ, ◌+◌, ◌-◌, ◌^◌, List, [], ◌∷◌, ◌++◌, map, Option, Some, None, pos, negsuc}
 use Rattle.std.specs.Prelude.{codes, length}
 use Rattle.std.specs.Fmt.{digits}
 use Rattle.expr_tree.specs.Tree.{Tree, integer, string, symbol, call}
 use Rattle.semantics.specs.declared.builtin.Builtin.{Builtin}
 use Rattle.semantics.specs.Builtin.{row_number, rows}
 use Rattle.semantics.specs.Names.{Names, make}
-use Rattle.semantics.specs.Texts.{row_text}
-use Rattle.script_text.specs.Spelling.{by_texts, place_in}
-use Rattle.syntax.specs.Input.{input}
-use Rattle.syntax.specs.Shapes.{shape_in}
+use Rattle.semantics.specs.Texts.{row_text, names_of}
+use Rattle.script_text.specs.Spelling.{place_in}
+use Rattle.readback_laws.specs.Laws.{shown_by}
 use Rattle.syntax.specs.Tokens.{LexFault, WideNumber, lex}
 use Rattle.syntax.specs.Operators.{infix_row, level_of, right_of, gives_of, tags_of, leads_at, trails_at}
 use Rattle.syntax.specs.Terminals.{sign_start, sign_next, word_start, word_next, on_line}
@@ -18,25 +17,19 @@ use Rattle.syntax.specs.Reads.{Reads}
 use Rattle.syntax.proofs.Reader.{frame_level, level_at, completed, popped, reduce, push, begins, begins_in, only_at, attached, tag_on_top, joined, separated, closes, made, closed_elements, closed_group, closed, goes_on, next_level, follows_phrase, follows_semicolon, part_opened, follows_opening, follows_half, follows, run, finished}
 use Rattle.syntax.proofs.Read.{parsed}
 
-abbrev row_at : List Builtin → ℕ → Option Builtin
-row_at [] n = None
-row_at (r ∷ rs) zero = Some r
-row_at (r ∷ rs) (suc n) = row_at rs n
-
--- the base of a row is its place in the table
-abbrev names : Names
-names = record { place = row_number; role = row_at rows }
-
-abbrev texts : List (List ℕ)
+abbrev pub texts : List (List ℕ)
 texts = map row_text rows ++ (codes "a" ∷ codes "b" ∷ codes "c" ∷ codes "f" ∷ codes "x" ∷ [])
+
+abbrev names : Names
+names = names_of texts
 
 abbrev other : ℕ → Tree
 other n = symbol (record { base = length rows + n; number = 0 })
 
-abbrev a' : Tree
+abbrev pub a' : Tree
 a' = other 0
 
-abbrev b' : Tree
+abbrev pub b' : Tree
 b' = other 1
 
 abbrev c' : Tree
@@ -48,18 +41,18 @@ f' = other 3
 abbrev x' : Tree
 x' = other 4
 
-abbrev int : ℕ → Tree
+abbrev pub int : ℕ → Tree
 int k = integer (pos k)
 
 -- -k
-abbrev less : ℕ → Tree
+abbrev pub less : ℕ → Tree
 less k = integer (negsuc (k - 1))
 
-abbrev of : Builtin → List Tree → Tree
+abbrev pub of : Builtin → List Tree → Tree
 of row es = make names row es
 
-abbrev text : Tree → List ℕ
-text e = input (by_texts texts) (shape_in names) e
+abbrev pub text : Tree → List ℕ
+text e = shown_by texts e
 
 abbrev again : Tree → Option LexFault × Option Tree
 again e = ((lex (text e)).fault, parsed names (place_in texts) (text e))

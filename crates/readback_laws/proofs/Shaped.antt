@@ -1,10 +1,10 @@
 -- Which row has a shape, and that a head with a shape is the row's symbol.
-use Rattle.std.proofs.Common.{◌≡◌, refl, sym, ap, ◌∙◌, ◌⊎◌, inl, inr, Bool, true, false, Option, Some, None, eqb-true}
+use Rattle.std.proofs.Common.{ℕ, ◌≡◌, refl, sym, ap, ◌∙◌, ◌⊎◌, inl, inr, Bool, true, false, Option, Some, None, eqb-true}
 use Rattle.std.specs.Prelude.{◌==◌}
 use Rattle.expr_tree.specs.declared.sym.Sym.{Sym}
 use Rattle.expr_tree.specs.Tree.{Tree, integer, string, symbol, normal}
 use Rattle.semantics.specs.declared.builtin.Builtin.{Builtin}
-use Rattle.semantics.specs.Names.{Names, IsNames, known, name, role_of}
+use Rattle.semantics.specs.Names.{Names, known, name, role_of}
 use Rattle.syntax.specs.Shapes as s
 use Rattle.syntax.specs.Input.{shape_at}
 
@@ -107,10 +107,14 @@ pub record Heads (names : Names) (h : Tree) (sh : s.Shape) : Type 0 where
   pub is : h ≡ name names (shaped_row sh)
   pub proper : is_proper sh ≡ true
 
-module _ (names : Names) (agree : IsNames names) where
+-- a base that is a row's is the place of the row
+abbrev pub Placed : Names → Type 0
+Placed names = (base : ℕ) (row : Builtin) → names.role base ≡ Some row → names.place row ≡ base
+
+module _ (names : Names) (agree : Placed names) where
   zero_numbered : (x : Sym) (row : Builtin) → (x.number == 0) ≡ true → names.role x.base ≡ Some row → x ≡ known names row
   zero_numbered x row n r =
-      let b : x.base ≡ names.place row = sym (agree.only x.base row r) in
+      let b : x.base ≡ names.place row = sym (agree x.base row r) in
       let z : x.number ≡ 0 = eqb-true x.number 0 n in
       λ i. record { base = b i; number = z i }
 
