@@ -12,6 +12,9 @@ mod Joined
 mod Enclosed
 mod Pairs
 mod Named
+mod Whole
+mod Fitted
 mod Again
+mod FullRead
 mod OneCell
 mod Witness

@@ -10,6 +10,12 @@ use Rattle.script_text.specs.Spelling.{by_texts, place_in}
 use Rattle.script_text.specs.Laws.{AreDistinct, IsKept, AreKept}
 use Rattle.script_text.proofs.Again.{IsFound, AreFound}
 use Rattle.script_text.proofs.Unique.{found_at, equal_texts, is_equal}
+use Rattle.expr_tree.specs.declared.sym.Sym.{Sym}
+use Rattle.semantics.specs.Names.{Names}
+use Rattle.script_text.specs.Spelling.{Spelling, symbol_text}
+use Rattle.script_text.specs.FullForm.{IsSpelled}
+use Rattle.script_text.specs.Reader.{symbol_of}
+use Rattle.syntax.specs.Leaves.{name_leaf}
 use Rattle.readback_laws.proofs.Shaped.{Placed}
 
 row_found : (rs : List Builtin) (t : List ℕ) (row : Builtin) → row_with rs t ≡ Some row → row_text row ≡ t
@@ -41,3 +47,7 @@ mutual
   pub each_found : (texts : List (List ℕ)) → AreDistinct texts → (es : Trees) → AreKept (length texts) es → AreFound (place_in texts) (by_texts texts) es
   each_found texts distinct nil k = tt
   each_found texts distinct (cons e es) k = (all_found texts distinct e k.0, each_found texts distinct es k.1)
+
+module _ (names : Names) (find : List ℕ → ℕ) (spelling : Spelling) where
+  pub leaf_is : (x : Sym) → IsSpelled spelling x → find (spelling x.base) ≡ x.base → name_leaf names find (symbol_text spelling x) ≡ symbol x
+  leaf_is x w f = ap (λ v. symbol (symbol_of find v)) w.read_back ∙ ap (λ (b : ℕ). symbol (record { base = b; number = x.number })) f

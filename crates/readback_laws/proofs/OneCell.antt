@@ -15,8 +15,8 @@ use Rattle.syntax.specs.Tokens as tok
 use Rattle.syntax.specs.Input.{Shown, at_level, all_at, together, term_after, terms_after, sum_text, factors, negative_text, pair_text, form_text, form_of, shown, all_shown, input}
 use Rattle.script_text.specs.Spelling.{by_texts, place_in}
 use Rattle.readback_laws.specs.Laws.{shown_by, InputIsOneCell}
-use Rattle.readback_laws.proofs.Again.{shows}
-use Rattle.readback_laws.proofs.Named.{placed, all_found}
+use Rattle.readback_laws.proofs.Again.{operand_by}
+use Rattle.readback_laws.proofs.Whole.{has_word}
 use Rattle.readback_laws.specs.Showable.{IsShowable, AreShowable}
 use Rattle.readback_laws.proofs.Pieces.{Piece, word, gap, bytes, words, AreCut}
 use Rattle.readback_laws.proofs.Scans.{both_true, or_false, scan_is, scan_by}
@@ -227,5 +227,6 @@ one_cell t f b =
 
 pub input_is_one_cell : InputIsOneCell
 input_is_one_cell texts distinct e w =
-    let p = shows (names_of texts) (placed texts distinct) (place_in texts) (by_texts texts) e w.showable (all_found texts distinct e w.kept) w.shallow in
-    one_cell (shown_by texts e) (input_feedless (by_texts texts) (s.shape_in (names_of texts)) e w.showable) (subst (λ (t : List ℕ). is_blank t ≡ false) p.spelled (pieces_solid p.pieces [] p.cut p.some))
+    let o = operand_by texts distinct e w in
+    one_cell (shown_by texts e) (input_feedless (by_texts texts) (s.shape_in (names_of texts)) e w.showable)
+    (subst (λ (t : List ℕ). is_blank t ≡ false) o.spelled (pieces_solid o.pieces [] (o.cut [] tt) (has_word (names_of texts) (place_in texts) o w.shallow)))

@@ -1,4 +1,4 @@
--- Expressions whose input form is read again, computed; and the least integer, whose input form is not.
+-- Expressions whose input form is read again, computed; the least integer, whose input form is not; and a full form that is read otherwise.
 use Rattle.std.proofs.Common.{◌≡◌, refl, sym, ◌∙◌, ℕ, ◌+◌, ◌-◌, ◌^◌, List, [], ◌∷◌, ◌++◌, map, Option, Some, None, pos, negsuc}
 use Rattle.std.specs.Prelude.{codes, length}
 use Rattle.std.specs.Fmt.{digits}
@@ -7,7 +7,8 @@ use Rattle.semantics.specs.declared.builtin.Builtin.{Builtin}
 use Rattle.semantics.specs.Builtin.{row_number, rows}
 use Rattle.semantics.specs.Names.{Names, make}
 use Rattle.semantics.specs.Texts.{row_text, names_of}
-use Rattle.script_text.specs.Spelling.{place_in}
+use Rattle.script_text.specs.Spelling.{by_texts, place_in}
+use Rattle.script_text.specs.Full.{full}
 use Rattle.readback_laws.specs.Laws.{shown_by}
 use Rattle.syntax.specs.Tokens.{LexFault, WideNumber, lex}
 use Rattle.syntax.specs.Operators.{infix_row, level_of, right_of, gives_of, tags_of, leads_at, trails_at}
@@ -110,3 +111,15 @@ least_faults = refl
 
 the_least_integer_is_not_read : (find : List ℕ → ℕ) (e : Tree) → ¬ Reads names find (text least) e
 the_least_integer_is_not_read find e r = let q : None ≡ Some (WideNumber 1) = sym r.no_fault ∙ least_faults in cc
+
+-- a minus sign in front of a head is that of the whole
+abbrev negative_head : Tree
+negative_head = call (less 1) (a' ∷ [])
+
+negative_head_text : full (by_texts texts) negative_head ≡ codes "-1[a]"
+unfolding digits
+negative_head_text = refl
+
+a_negative_head_is_read_otherwise : parsed names (place_in texts) (codes "-1[a]") ≡ Some (of Builtin.Times (less 1 ∷ call (int 1) (a' ∷ []) ∷ []))
+unfolding digits frame_level level_at completed popped reduce push begins begins_in only_at attached tag_on_top joined separated closes made closed_elements closed_group closed goes_on next_level follows_phrase follows_semicolon part_opened follows_opening follows_half follows run finished infix_row level_of right_of gives_of tags_of leads_at trails_at sign_start sign_next word_start word_next on_line nesting_limit
+a_negative_head_is_read_otherwise = refl
