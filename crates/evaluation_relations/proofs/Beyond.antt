@@ -1,6 +1,5 @@
 -- States whose module number has passed a bound: each evaluation from there ends beyond it, or needs a call.
-use Rattle.std.proofs.Common.{◌≡◌, refl, sym, subst, ℕ, zero, suc, ◌+◌, ◌≤◌, arith, Bool, true, false, ltb, List, [], ◌∷◌, Option, Some, None, ltb-true}
-use Rattle.std.specs.Prelude.{◌==◌}
+use Rattle.std.proofs.Common.{◌≡◌, refl, sym, subst, ℕ, zero, suc, ◌≤◌, arith, Bool, true, false, ltb, List, [], ◌∷◌, Option, Some, None, ltb-true}
 use Rattle.expr_tree.specs.declared.sym.Sym.{Sym}
 use Rattle.expr_tree.specs.declared.limits.Stop.{Stop}
 use Rattle.expr_tree.specs.Tree.{Tree}
@@ -44,11 +43,11 @@ module _ (n m : ℕ) where
   leaving-far k Closed s h = over h
   leaving-far k Starved s h = over h
 
-  put_number : (names : Names) (ls : List Local) (d : Definitions) → (put_locals names ls d).module_number ≡ d.module_number
+  pub put_number : (names : Names) (ls : List Local) (d : Definitions) → (put_locals names ls d).module_number ≡ d.module_number
   put_number names [] d = refl
   put_number names (l ∷ ls) d = put_number names ls _
 
-  back_number : (names : Names) (old : Definitions) (ls : List Local) (d : Definitions) → (put_back names old ls d).module_number ≡ d.module_number
+  pub back_number : (names : Names) (old : Definitions) (ls : List Local) (d : Definitions) → (put_back names old ls d).module_number ≡ d.module_number
   back_number names old [] d = refl
   back_number names old (l ∷ ls) d = back_number names old ls _
 

@@ -1,16 +1,15 @@
 -- What the control forms owe: on related items they are programs that do the same.
-use Rattle.std.proofs.Common.{◌≡◌, refl, ap, ℕ, zero, suc, Bool, true, false, List, [], ◌∷◌, reverse, Option, Some, None}
+use Rattle.std.proofs.Common.{◌≡◌, refl, ℕ, zero, suc, List, Option}
 use Rattle.std.specs.Prelude.{ℤ, pos, ◌+ℤ◌}
 use Rattle.std.specs.Ordering.{int_eq}
 use Rattle.expr_tree.specs.declared.sym.Sym.{Sym}
-use Rattle.expr_tree.specs.Tree.{Tree, integer, symbol}
+use Rattle.expr_tree.specs.Tree.{Tree, integer}
 use Rattle.semantics.specs.declared.builtin.Builtin.{Builtin}
-use Rattle.semantics.specs.Names.{is_name}
 use Rattle.semantics.specs.Program.{Prog, Done}
-use Rattle.semantics.specs.Control.{most_turns, in_turn, by_truth, conditional, first_true, is_paired, which, connected, while_true, while, Values, From, Each, ask_number, bound_or_list, unless_zero, unless_shared, iterator_parts, iterator, locals, over_numbers, over_list, over, inner_form, iterated, applied, nested, nest, until_fixed, fixed_point, folded, fold, selected, select, nested_list, nest_list, folded_list, fold_list}
+use Rattle.semantics.specs.Control.{most_turns, in_turn, by_truth, conditional, first_true, is_paired, which, connected, while_true, while, Values, From, Each, ask_number, bound_or_list, unless_shared, iterator_parts, iterator, locals, over_numbers, over_list, over, inner_form, iterated, applied, nested, nest, until_fixed, fixed_point, folded, fold, selected, select, nested_list, nest_list, folded_list, fold_list}
 use Rattle.evaluation_relations.proofs.Relate.{Opt, none, some, all_nil, all_cons, branch}
 use Rattle.evaluation_relations.proofs.Listed.{reverse2, same_case}
-use Rattle.evaluation_relations.proofs.Relation.{Like, int, str, sym, node, listed-like, items-like, call-like, same-like, is_name-like, is_call-like, make-like}
+use Rattle.evaluation_relations.proofs.Relation.{int, str, sym, node, listed-like, items-like, call-like, same-like, is_call-like, make-like}
 use Rattle.evaluation_relations.proofs.Simulation.{done, stop, look, turn, check, moded}
 use Rattle.evaluation_relations.proofs.Kin.{Kin, Tr, Trs, Locs, Both, Next, NextList, asks-both, within-both, name-both, made-both, by_name-both}
 

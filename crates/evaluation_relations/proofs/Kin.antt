@@ -1,18 +1,18 @@
 -- One relation on symbols that stays as it is: the shift of names is such a relation. The rows of the table are stated for it.
-use Rattle.std.proofs.Common.{◌≡◌, ℕ, Bool, true, false, List}
+use Rattle.std.proofs.Common.{◌≡◌, ℕ, true, false, List}
 use Rattle.expr_tree.specs.declared.sym.Sym.{Sym}
 use Rattle.expr_tree.specs.Tree.{Tree}
 use Rattle.semantics.specs.declared.builtin.Builtin.{Builtin}
 use Rattle.semantics.specs.Names.{Names, name, is_name, make}
-use Rattle.semantics.specs.Definitions.{Definition, Share}
-use Rattle.semantics.specs.Program.{Prog, Done, Ask, Within, Look, Local, Seen}
+use Rattle.semantics.specs.Definitions.{Definition}
+use Rattle.semantics.specs.Program.{Prog, Done, Ask, Within, Local}
 use Rattle.semantics.specs.Rule.{Rule}
 use Rattle.semantics.specs.Attempt.{try_rules}
 use Rattle.semantics.specs.Scoping.{renamed}
 use Rattle.semantics.specs.Play.{State}
 use Rattle.evaluation_relations.proofs.Relate.{All, branch}
 use Rattle.evaluation_relations.proofs.Relation.{Like, LikeList, LikeRule, LikeDefinition, LikeLocal, Faithful, name-like, make-like, is_name-like}
-use Rattle.evaluation_relations.proofs.Simulation.{Likeness, Alike, done, ask, within, look}
+use Rattle.evaluation_relations.proofs.Simulation.{Likeness, Alike, done, ask, within}
 use Rattle.evaluation_relations.proofs.Programs.{Sound, Later, try_rules-alike}
 
 pub record Kin : Type 1 where

@@ -1,12 +1,12 @@
 -- What the rows of lists owe: on related items they give related results.
-use Rattle.std.proofs.Common.{◌≡◌, refl, ap, subst, ◌∙◌, ℕ, zero, suc, Bool, true, false, List, [], ◌∷◌, ◌++◌, map, length, take, drop, Option, Some, None}
-use Rattle.std.specs.Prelude.{ℤ, pos, negsuc, ◌+ℤ◌, ◌+◌, ◌==◌, ◌&&◌, leb}
+use Rattle.std.proofs.Common.{◌≡◌, refl, ap, subst, ◌∙◌, ℕ, zero, suc, Bool, true, false, List, ◌∷◌, map, length, Option}
+use Rattle.std.specs.Prelude.{ℤ, pos, negsuc, ◌+ℤ◌, ◌+◌, leb}
 use Rattle.std.specs.Ordering.{int_eq, is_gt}
 use Rattle.expr_tree.specs.declared.sym.Sym.{Sym}
-use Rattle.expr_tree.specs.Tree.{Tree, integer, normal, Trees, elements, call}
+use Rattle.expr_tree.specs.Tree.{Tree, integer, Trees, elements, call}
 use Rattle.semantics.specs.declared.builtin.Builtin.{Builtin}
 use Rattle.semantics.specs.Names.{Names, make}
-use Rattle.semantics.specs.Worked.{Worked, Stays, Gives}
+use Rattle.semantics.specs.Worked.{Stays, Gives}
 use Rattle.semantics.specs.Control.{steps_to}
 use Rattle.semantics.specs.Table.{ordered_q}
 use Rattle.semantics.specs.Lists as Lists

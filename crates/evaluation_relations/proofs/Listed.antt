@@ -1,5 +1,5 @@
 -- Related lists: reversed, cut, repeated.
-use Rattle.std.proofs.Common.{◌≡◌, refl, subst, ℕ, zero, suc, List, [], ◌∷◌, reverse, take, drop, replicate, Option, Some, None}
+use Rattle.std.proofs.Common.{◌≡◌, subst, ℕ, zero, suc, List, reverse, take, drop, replicate, Option, Some, None}
 use mathlib.Core.List.{reverse_aux}
 use Rattle.evaluation_relations.proofs.Relate.{All, all_nil, all_cons}
 

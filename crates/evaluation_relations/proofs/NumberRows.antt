@@ -188,7 +188,7 @@ module _ (S : Sym → Sym → Type 0) where
     stands_in-like e all_nil = refl
     stands_in-like e (all_cons f l) = branch (◌≡◌ {A = Bool}) (same-like S names F e f) refl (stands_in-like e l)
 
-    some_same-like : {es fs : List Tree} → LikeList S es fs → some_same es ≡ some_same fs
+    pub some_same-like : {es fs : List Tree} → LikeList S es fs → some_same es ≡ some_same fs
     some_same-like all_nil = refl
     some_same-like (all_cons e l) = rw (stands_in-like e l, some_same-like l) refl
 

@@ -68,7 +68,7 @@ module _ (like : Likeness) (names : Names) (sound : Sound like names) where
   spliced-like : (w : World) (a : Attributes) {es fs : List Tree} → LikeList (Symbols w) es fs → LikeList (Symbols w) (spliced names a es) (spliced names a fs)
   spliced-like w a l = branch (LikeList (Symbols w)) refl l (splice-like (Symbols w) names (sound.faithful w) l)
 
-  first_steps-alike : (w : World) {h g : Tree} {es fs : List Tree} (k l : Tree → Attributes → List Tree → Prog) → Like (Symbols w) h g → LikeList (Symbols w) es fs
+  pub first_steps-alike : (w : World) {h g : Tree} {es fs : List Tree} (k l : Tree → Attributes → List Tree → Prog) → Like (Symbols w) h g → LikeList (Symbols w) es fs
       → ((u : World) → grows w u → (x y : Tree) (a : Attributes) (gs hs : List Tree) → Like (Symbols u) x y → LikeList (Symbols u) gs hs → Alike like u (k x a gs) (l y a hs))
       → Alike like w (first_steps names h es k) (first_steps names g fs l)
   first_steps-alike w k l h es next =
@@ -79,22 +79,22 @@ module _ (like : Likeness) (names : Names) (sound : Sound like names) where
 
   -- ---- flattening, threading, sorting
 
-  flattened-like : (w : World) (a : Attributes) {h g : Tree} {es fs : List Tree} → Like (Symbols w) h g → LikeList (Symbols w) es fs → LikeList (Symbols w) (flattened h a es) (flattened g a fs)
+  pub flattened-like : (w : World) (a : Attributes) {h g : Tree} {es fs : List Tree} → Like (Symbols w) h g → LikeList (Symbols w) es fs → LikeList (Symbols w) (flattened h a es) (flattened g a fs)
   flattened-like w a int l = l
   flattened-like w a str l = l
   flattened-like w a (sym s) l = branch (LikeList (Symbols w)) refl (flatten-like (Symbols w) names (sound.faithful w) s l) l
   flattened-like w a (node h es) l = l
 
-  threaded-like : (w : World) (a : Attributes) {h g : Tree} {es fs : List Tree} → Like (Symbols w) h g → LikeList (Symbols w) es fs → Opt (LikeList (Symbols w)) (threaded names h a es) (threaded names g a fs)
+  pub threaded-like : (w : World) (a : Attributes) {h g : Tree} {es fs : List Tree} → Like (Symbols w) h g → LikeList (Symbols w) es fs → Opt (LikeList (Symbols w)) (threaded names h a es) (threaded names g a fs)
   threaded-like w a int l = none
   threaded-like w a str l = none
   threaded-like w a (sym s) l = branch (Opt (LikeList (Symbols w))) refl (thread-like (Symbols w) names (sound.faithful w) s l) none
   threaded-like w a (node h es) l = none
 
-  sorted-like : (w : World) (a : Attributes) {es fs : List Tree} → LikeList (Symbols w) es fs → LikeList (Symbols w) (sorted a es) (sorted a fs)
+  pub sorted-like : (w : World) (a : Attributes) {es fs : List Tree} → LikeList (Symbols w) es fs → LikeList (Symbols w) (sorted a es) (sorted a fs)
   sorted-like w a l = branch (LikeList (Symbols w)) refl (ordered-like (Symbols w) names (sound.faithful w) l) l
 
-  check_all-alike : (w : World) {es fs : List Tree} {p q : Prog} → LikeList (Symbols w) es fs → Alike like w p q → Alike like w (check_all es p) (check_all fs q)
+  pub check_all-alike : (w : World) {es fs : List Tree} {p q : Prog} → LikeList (Symbols w) es fs → Alike like w p q → Alike like w (check_all es p) (check_all fs q)
   check_all-alike w all_nil both = both
   check_all-alike w (all_cons e es) both = check e (check_all-alike w es both)
 

@@ -1,7 +1,6 @@
 -- What replacing owes, and the rows that ask whether a pattern matches.
-use Rattle.std.proofs.Common.{◌≡◌, refl, ℕ, zero, suc, true, false, List, [], ◌∷◌, reverse, Option, Some, None}
-use Rattle.std.specs.Prelude.{pos, ◌||◌}
-use Rattle.expr_tree.specs.Tree.{Tree, normal, Trees, nil, cons, call}
+use Rattle.std.proofs.Common.{refl, ℕ, zero, suc, true, false, List, [], ◌∷◌}
+use Rattle.expr_tree.specs.Tree.{Tree, Trees}
 use Rattle.semantics.specs.declared.builtin.Builtin.{Builtin}
 use Rattle.semantics.specs.Names.{truth}
 use Rattle.semantics.specs.Rule.{Rule}
@@ -9,7 +8,7 @@ use Rattle.semantics.specs.Program.{Prog, Done}
 use Rattle.semantics.specs.Replace.{rule_in, rule_of, rules_in, rule_set, replaced, replaced_items, replace_all, rounds, replace_repeated, asks, match_q, member, member_q, cases_of, case_rule, matching, cases, count_of, count_row, free, free_items, free_q}
 use Rattle.evaluation_relations.proofs.Relate.{Opt, none, some, all_nil, all_cons, branch, case}
 use Rattle.evaluation_relations.proofs.Listed.{reverse2}
-use Rattle.evaluation_relations.proofs.Relation.{Like, int, str, sym, node, Likes, ends, mores, LikeRule, listed-like, items-like, call-like, same-like, is_call-like}
+use Rattle.evaluation_relations.proofs.Relation.{int, str, sym, node, Likes, ends, mores, LikeRule, listed-like, items-like, call-like, same-like, is_call-like}
 use Rattle.evaluation_relations.proofs.NumberRows.{truth-like}
 use Rattle.evaluation_relations.proofs.Simulation.{done, stop, turn, check}
 use Rattle.evaluation_relations.proofs.Kin.{Kin, Tr, Trs, Rules, Both, Next, rules-both}

@@ -1,16 +1,15 @@
 -- What Module, Block, With and the application of a Function owe.
-use Rattle.std.proofs.Common.{◌≡◌, refl, ap, ℕ, zero, suc, Bool, true, false, ltb, List, [], ◌∷◌, Option, Some, None}
-use Rattle.std.specs.Prelude.{pos, ◌==◌, ◌&&◌, ◌||◌, not}
+use Rattle.std.proofs.Common.{◌≡◌, refl, ap, ℕ, zero, suc, Bool, ltb, List}
+use Rattle.std.specs.Prelude.{pos}
 use Rattle.expr_tree.specs.declared.sym.Sym.{Sym}
 use Rattle.expr_tree.specs.Tree.{Tree, Trees}
-use Rattle.expr_tree.specs.Substitution.{Binding, among}
 use Rattle.semantics.specs.declared.builtin.Builtin.{Builtin}
 use Rattle.semantics.specs.InPlace.{nth, slot_number, filled, slot_value, is_slot, is_pure_function, fill_slots, fill_in_items}
-use Rattle.semantics.specs.Program.{Prog, Done, Local}
+use Rattle.semantics.specs.Program.{Prog, Local}
 use Rattle.semantics.specs.Scoping.{plain_local, valued_local, local_of, locals_of, symbols_of, differ, has_base, bases_differ, ask_values, with_locals, renaming, with_number, make_all, module_form, unless_any_shared, block_form, values_in, with_form, symbols_in, paired, parameters, put_arguments, apply_function}
 use Rattle.evaluation_relations.proofs.Relate.{Opt, none, some, All, all_nil, all_cons, branch, case, append2, length2}
 use Rattle.evaluation_relations.proofs.Listed.{drop2, same_case}
-use Rattle.evaluation_relations.proofs.Relation.{Like, int, str, sym, node, Likes, ends, mores, LikeBound, LikeLocal, listed-like, items-like, is_name-like, is_call-like, among-like, as_one-like, put_in_place-like}
+use Rattle.evaluation_relations.proofs.Relation.{int, str, sym, node, Likes, ends, mores, LikeBound, LikeLocal, listed-like, items-like, is_name-like, is_call-like, among-like, as_one-like, put_in_place-like}
 use Rattle.evaluation_relations.proofs.Simulation.{done, look, put, fresh, moded}
 use Rattle.evaluation_relations.proofs.Kin.{Kin, Tr, Trs, Syms, Locs, Both, asks-both, within-both}
 
@@ -111,7 +110,7 @@ module _ (K : Kin) where
 
   -- ---- the application of a Function
 
-  symbols_in-like : {es fs : List Tree} → Trs K es fs → Opt (Syms K) (symbols_in es) (symbols_in fs)
+  pub symbols_in-like : {es fs : List Tree} → Trs K es fs → Opt (Syms K) (symbols_in es) (symbols_in fs)
   symbols_in-like all_nil = some all_nil
   symbols_in-like (all_cons (sym s) l) = case (Opt (Syms K)) (symbols_in-like l) none (λ a b rest. some (all_cons s rest))
   symbols_in-like (all_cons int l) = none
