@@ -1,3 +1,4 @@
 mod Frames
 mod Numbers
+mod Shifts
 mod Quiet
