@@ -14,7 +14,7 @@ use Rattle.semantics.specs.Assign.{Form, ToHead, ToItems, ToTag, Place, Own, Dow
 use Rattle.evaluation_relations.proofs.Relate.{Opt, none, some, All, all_nil, all_cons, branch, case, append2, length2}
 use Rattle.evaluation_relations.proofs.Relation.{int, str, sym, node, Likes, ends, mores, LikeRule, symbol-like, items-like, same-like, is_name-like, is_call-like, same_symbol-like, among-like}
 use Rattle.evaluation_relations.proofs.Programs.{condition_of-like}
-use Rattle.evaluation_relations.proofs.Kin.{Kin, like, sound, Tr, Trs, Syms, Def, Rules}
+use Rattle.evaluation_relations.proofs.Kin.{Kin, Tr, Trs, Syms, Def, Rules}
 
 module _ (K : Kin) where
   open K use {names}
@@ -183,13 +183,10 @@ module _ (K : Kin) where
       occurrences-like (λ h es. is_name names Builtin.Condition h || is_name names Builtin.PatternTest h)
       (λ h g es fs one all i. is_name-like K.Symbols names K.faithful Builtin.Condition one i || is_name-like K.Symbols names K.faithful Builtin.PatternTest one i) e
 
-  right_condition : {e f : Tree} → Tr K e f → Trs K (condition_of names e) (condition_of names f)
-  right_condition e = condition_of-like (like K) names (sound K) tt e
-
   key_of-like : {r q : Rule} → LikeRule K.Symbols r q → key_of names r ≡ key_of names q
   key_of-like one =
       λ i. named Builtin.BlankNullSequence one.left i ∷ named Builtin.BlankSequence one.left i ∷ occurrences-like (is_untyped names) (λ h g es fs a b. untyped-like a b) one.left i
-      ∷ occurrences-like (is_typed names) (λ h g es fs a b. typed-like a b) one.left i ∷ (1000 - (conditions one.left i + length2 (right_condition one.right) i)) ∷ []
+      ∷ occurrences-like (is_typed names) (λ h g es fs a b. typed-like a b) one.left i ∷ (1000 - (conditions one.left i + length2 (condition_of-like K one.right) i)) ∷ []
 
   same_condition-like : {as' bs cs ds : List Tree} → Trs K as' bs → Trs K cs ds → same_condition as' cs ≡ same_condition bs ds
   same_condition-like all_nil all_nil = refl
@@ -198,7 +195,7 @@ module _ (K : Kin) where
 
   replaces-like : {a b c d : Rule} → LikeRule K.Symbols a b → LikeRule K.Symbols c d → replaces names a c ≡ replaces names b d
   replaces-like one two =
-      λ i. same-like K.Symbols names K.faithful one.left two.left i && same_condition-like (right_condition one.right) (right_condition two.right) i
+      λ i. same-like K.Symbols names K.faithful one.left two.left i && same_condition-like (condition_of-like K one.right) (condition_of-like K two.right) i
 
   is_replaced-like : {a b : Rule} {rs qs : List Rule} → LikeRule K.Symbols a b → Rules K rs qs → is_replaced names a rs ≡ is_replaced names b qs
   is_replaced-like one all_nil = refl

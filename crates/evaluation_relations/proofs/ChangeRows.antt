@@ -14,26 +14,14 @@ use Rattle.semantics.specs.Changes.{see_all, is_protected, protected_in, any_sha
 use Rattle.evaluation_relations.proofs.Relate.{Opt, none, some, All, all_nil, all_cons, branch, case}
 use Rattle.evaluation_relations.proofs.Listed.{same_case}
 use Rattle.evaluation_relations.proofs.Relation.{int, str, sym, node, symbol-like, items-like, listed-like, call-like, is_call-like, make-like, name-like, ordered-like, same_symbol-like}
-use Rattle.evaluation_relations.proofs.Simulation.{done, look, put, check, moded}
-use Rattle.evaluation_relations.proofs.Passes.{first_steps-alike, flattened-like, threaded-like, sorted-like, check_all-alike}
-use Rattle.evaluation_relations.proofs.Kin.{Kin, like, sound, Tr, Trs, Syms, Def, Both, Next, asks-both, name-both}
+use Rattle.evaluation_relations.proofs.FirstSteps.{left_side-both}
+use Rattle.evaluation_relations.proofs.Kin.{Kin, Tr, Trs, Syms, Def}
+use Rattle.evaluation_relations.proofs.Simulation.{Both, Next, ask, done, look, put, check, moded}
+use Rattle.evaluation_relations.proofs.Programs.{name-both}
 use Rattle.evaluation_relations.proofs.AssignRows.{inner-like, add_symbol-like, item_symbols-like, target, LikeForm, to_tag, Targets, places-like, asked_symbols-like, refusal-like, remove-like, has_left-like, attached-like}
 
 module _ (K : Kin) where
   open K use {names}
-
-  -- ---- the left side
-
-  left_side-both : {e f : Tree} (k l : Tree → Prog) → Tr K e f → Next K k l → Both K (left_side names e k) (left_side names f l)
-  left_side-both k l int next = next _ _ int
-  left_side-both k l str next = next _ _ str
-  left_side-both k l (sym s) next = next _ _ (sym s)
-  left_side-both k l (node h es) next =
-      first_steps-alike (like K) names (sound K) tt _ _ h (listed-like K.Symbols es) (λ u g x y a gs hs head items.
-      let flat = flattened-like (like K) names (sound K) tt a head items in
-      case (Both K) (threaded-like (like K) names (sound K) tt a head flat)
-      (next _ _ (call-like K.Symbols head (sorted-like (like K) names (sound K) tt a flat)))
-      (λ vs xs each. check_all-alike (like K) names (sound K) tt each (next _ _ (make-like K.Symbols names K.faithful Builtin.List each))))
 
   -- ---- what is seen of several symbols
 
@@ -105,20 +93,20 @@ module _ (K : Kin) where
       (case (Both K) (refusal-like K (protected_in es) (protected_in fs) (λ s t one. protected_in-like seen one) form e) (attach_all-both (places-like K form e) e v both) (λ a b any. failed-both)))
 
   pub set-both : {a b : Form} {p q : Prog} {es fs : List Tree} → LikeForm K a b → Both K p q → Trs K es fs → Both K (set names a p es) (set names b q fs)
-  set-both form stay (all_cons e (all_cons v all_nil)) = left_side-both _ _ e (λ l m left. assign-both form left v (done v))
+  set-both form stay (all_cons e (all_cons v all_nil)) = left_side-both K _ _ e (λ l m left. assign-both form left v (done v))
   set-both form stay _ = stay
 
   pub set_delayed-both : {a b : Form} {p q : Prog} {es fs : List Tree} → LikeForm K a b → Both K p q → Trs K es fs → Both K (set_delayed names a p es) (set_delayed names b q fs)
-  set_delayed-both form stay (all_cons e (all_cons v all_nil)) = left_side-both _ _ e (λ l m left. assign-both form left v null-both)
+  set_delayed-both form stay (all_cons e (all_cons v all_nil)) = left_side-both K _ _ e (λ l m left. assign-both form left v null-both)
   set_delayed-both form stay _ = stay
 
   pub tag_set-both : {p q : Prog} {es fs : List Tree} → Both K p q → Trs K es fs → Both K (tag_set names p es) (tag_set names q fs)
   tag_set-both stay (all_cons (sym t) (all_cons e (all_cons v all_nil))) =
-      left_side-both _ _ e (λ l m left. asks-both K v (λ w x value. assign-both (to_tag t) left value (done value)))
+      left_side-both K _ _ e (λ l m left. ask v (λ w x value. assign-both (to_tag t) left value (done value)))
   tag_set-both stay _ = stay
 
   pub tag_set_delayed-both : {p q : Prog} {es fs : List Tree} → Both K p q → Trs K es fs → Both K (tag_set_delayed names p es) (tag_set_delayed names q fs)
-  tag_set_delayed-both stay (all_cons (sym t) (all_cons e (all_cons v all_nil))) = left_side-both _ _ e (λ l m left. assign-both (to_tag t) left v null-both)
+  tag_set_delayed-both stay (all_cons (sym t) (all_cons e (all_cons v all_nil))) = left_side-both K _ _ e (λ l m left. assign-both (to_tag t) left v null-both)
   tag_set_delayed-both stay _ = stay
 
   -- ---- Unset
@@ -156,7 +144,7 @@ module _ (K : Kin) where
 
   pub unset-both : {p q : Prog} {es fs : List Tree} → Both K p q → Trs K es fs → Both K (unset names p es) (unset names q fs)
   unset-both stay (all_cons e all_nil) =
-      left_side-both _ _ e (λ l m left. see_all-both _ _ (holders-like left) (λ es fs seen. unless_item-both (any_shared-like seen) (unset_from-both left (holding-like left seen))))
+      left_side-both K _ _ e (λ l m left. see_all-both _ _ (holders-like left) (λ es fs seen. unless_item-both (any_shared-like seen) (unset_from-both left (holding-like left seen))))
   unset-both stay _ = stay
 
   -- ---- a symbol's value or attributes changed
@@ -171,7 +159,7 @@ module _ (K : Kin) where
       → Both K (change_own names s f gives d) (change_own names t g gives c)
   change_own-both f g gives s makes chooses d =
       branch (Both K) (protected-like d) failed-both
-      (case (Both K) d.own failed-both (λ old old' same. check (makes _ _ same) (asks-both K (makes _ _ same) (λ v x value.
+      (case (Both K) d.own failed-both (λ old old' same. check (makes _ _ same) (ask (makes _ _ same) (λ v x value.
       look s (λ y z defined shared. put s (record { attributes = defined.attributes; own = some value; downs = defined.downs; ups = defined.ups }) (done (chooses _ _ _ _ same value)))))))
 
   change-both : {s t : Sym} (f g : Tree → Tree) (gives : Tree → Tree → Tree) → K.Symbols s t → Maker f g → Chooser gives → Both K (change names s f gives) (change names t g gives)

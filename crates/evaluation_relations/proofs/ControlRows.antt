@@ -10,16 +10,17 @@ use Rattle.semantics.specs.Control.{most_turns, in_turn, by_truth, conditional, 
 use Rattle.evaluation_relations.proofs.Relate.{Opt, none, some, all_nil, all_cons, branch}
 use Rattle.evaluation_relations.proofs.Listed.{reverse2, same_case}
 use Rattle.evaluation_relations.proofs.Relation.{int, str, sym, node, listed-like, items-like, call-like, same-like, is_call-like, make-like}
-use Rattle.evaluation_relations.proofs.Simulation.{done, stop, look, turn, check, moded}
-use Rattle.evaluation_relations.proofs.Kin.{Kin, Tr, Trs, Locs, Both, Next, NextList, asks-both, within-both, name-both, made-both, by_name-both}
+use Rattle.evaluation_relations.proofs.Kin.{Kin, Tr, Trs, Locs}
+use Rattle.evaluation_relations.proofs.Simulation.{Both, Next, NextList, ask, within, done, stop, look, turn, check, moded}
+use Rattle.evaluation_relations.proofs.Programs.{name-both, made-both, by_name-both}
 
 module _ (K : Kin) where
   open K use {names}
 
   pub in_turn-both : {p q : Prog} {es fs : List Tree} → Both K p q → Trs K es fs → Both K (in_turn p es) (in_turn q fs)
   in_turn-both stay all_nil = stay
-  in_turn-both stay (all_cons e all_nil) = asks-both K e (λ v x same. done same)
-  in_turn-both stay (all_cons e (all_cons f l)) = asks-both K e (λ v x same. in_turn-both stay (all_cons f l))
+  in_turn-both stay (all_cons e all_nil) = ask e (λ v x same. done same)
+  in_turn-both stay (all_cons e (all_cons f l)) = ask e (λ v x same. in_turn-both stay (all_cons f l))
 
   by_truth-both : {v x : Tree} {p q r p' q' r' : Prog} → Tr K v x → Both K p p' → Both K q q' → Both K r r' → Both K (by_truth names v p q r) (by_truth names x p' q' r')
   by_truth-both same a b c = by_name-both K Builtin.True same a (by_name-both K Builtin.False same b c)
@@ -34,7 +35,7 @@ module _ (K : Kin) where
   first_true-both all_nil = name-both K Builtin.Null
   first_true-both (all_cons c all_nil) = made-both K Builtin.Which (all_cons c all_nil)
   first_true-both (all_cons c (all_cons e l)) =
-      asks-both K c (λ v x same. by_truth-both same (done e) (first_true-both l) (made-both K Builtin.Which (all_cons same (all_cons e l))))
+      ask c (λ v x same. by_truth-both same (done e) (first_true-both l) (made-both K Builtin.Which (all_cons same (all_cons e l))))
 
   is_paired-like : {es fs : List Tree} → Trs K es fs → is_paired es ≡ is_paired fs
   is_paired-like all_nil = refl
@@ -49,13 +50,13 @@ module _ (K : Kin) where
   connected-both row going ending all_nil (all_cons e all_nil) = done e
   connected-both row going ending all_nil (all_cons e (all_cons f l)) = made-both K row (reverse2 (all_cons e (all_cons f l)))
   connected-both row going ending (all_cons e l) kept =
-      asks-both K e (λ v x same. by_name-both K ending same (done same)
+      ask e (λ v x same. by_name-both K ending same (done same)
       (by_name-both K going same (connected-both row going ending l kept) (connected-both row going ending l (all_cons same kept))))
 
   while_true-both : (n : ℕ) {c d e f : Tree} → Tr K c d → Tr K e f → Both K (while_true names n c e) (while_true names n d f)
   while_true-both zero c e = stop
   while_true-both (suc n) c e =
-      turn (asks-both K c (λ v x same. by_name-both K Builtin.True same (asks-both K e (λ w y other. while_true-both n c e)) (name-both K Builtin.Null)))
+      turn (ask c (λ v x same. by_name-both K Builtin.True same (ask e (λ w y other. while_true-both n c e)) (name-both K Builtin.Null)))
 
   pub while-both : {p q : Prog} {es fs : List Tree} → Both K p q → Trs K es fs → Both K (while names p es) (while names q fs)
   while-both stay (all_cons c (all_cons e all_nil)) = while_true-both most_turns c e
@@ -74,7 +75,7 @@ module _ (K : Kin) where
   by_int k l (node h es) next stay = stay
 
   ask_number-both : {e f : Tree} (k l : ℤ → Prog) {p q : Prog} → Tr K e f → ((n : ℤ) → Both K (k n) (l n)) → Both K p q → Both K (ask_number e k p) (ask_number f l q)
-  ask_number-both k l e next stay = asks-both K e (λ v x same. by_int k l same next stay)
+  ask_number-both k l e next stay = ask e (λ v x same. by_int k l same next stay)
 
   bound_or_list-both : {e f : Tree} (k l : Values → Prog) {p q : Prog} → Tr K e f → ((vs us : Values) → LikeValues vs us → Both K (k vs) (l us)) → Both K p q
       → Both K (bound_or_list names e k p) (bound_or_list names f l q)
@@ -94,7 +95,7 @@ module _ (K : Kin) where
       → Both K (iterator_parts names es k p) (iterator_parts names fs l q)
   iterator_parts-both k l (all_cons n all_nil) next stay = ask_number-both _ _ n (λ b. next _ _ _ _ _ _ none from (all_cons int all_nil)) stay
   iterator_parts-both k l (all_cons (sym i) (all_cons b all_nil)) next stay =
-      unless_shared-both i (asks-both K b (λ v x same. bound_or_list-both _ _ same (λ vs us values. next _ _ _ _ _ _ (some i) values (all_cons (sym i) (all_cons same all_nil))) stay))
+      unless_shared-both i (ask b (λ v x same. bound_or_list-both _ _ same (λ vs us values. next _ _ _ _ _ _ (some i) values (all_cons (sym i) (all_cons same all_nil))) stay))
   iterator_parts-both k l (all_cons (sym i) (all_cons a (all_cons b all_nil))) next stay =
       unless_shared-both i (ask_number-both _ _ a (λ m. ask_number-both _ _ b (λ n. next _ _ _ _ _ _ (some i) from (all_cons (sym i) (all_cons int (all_cons int all_nil)))) stay) stay)
   iterator_parts-both k l (all_cons (sym i) (all_cons a (all_cons b (all_cons d all_nil)))) next stay =
@@ -113,12 +114,12 @@ module _ (K : Kin) where
       → Both K (over_numbers i e d n a so k) (over_numbers j f d n a so' l)
   over_numbers-both zero d a k l i e so finish = finish _ _ (reverse2 so)
   over_numbers-both (suc n) d a k l i e so finish =
-      turn (within-both K (locals-like i int) e (λ v x same. over_numbers-both n d (a +ℤ d) k l i e (all_cons same so) finish))
+      turn (within (locals-like i int) e (λ v x same. over_numbers-both n d (a +ℤ d) k l i e (all_cons same so) finish))
 
   over_list-both : {es fs : List Tree} {i j : Option Sym} {e f : Tree} {so so' : List Tree} (k l : List Tree → Prog) → Trs K es fs → Opt K.Symbols i j → Tr K e f → Trs K so so' → NextList K k l
       → Both K (over_list i e es so k) (over_list j f fs so' l)
   over_list-both k l all_nil i e so finish = finish _ _ (reverse2 so)
-  over_list-both k l (all_cons x xs) i e so finish = turn (within-both K (locals-like i x) e (λ v y same. over_list-both k l xs i e (all_cons same so) finish))
+  over_list-both k l (all_cons x xs) i e so finish = turn (within (locals-like i x) e (λ v y same. over_list-both k l xs i e (all_cons same so) finish))
 
   over-both : {i j : Option Sym} {vs us : Values} {e f : Tree} (k l : List Tree → Prog) → Opt K.Symbols i j → LikeValues vs us → Tr K e f → NextList K k l → Both K (over i vs e k) (over j us f l)
   over-both k l i (from {a = a} {d = d} {n = n}) e finish = over_numbers-both n d a k l i e all_nil finish
@@ -136,7 +137,7 @@ module _ (K : Kin) where
   -- ---- turn forms
 
   applied-both : {f g : Tree} {es fs : List Tree} (k l : Tree → Prog) → Tr K f g → Trs K es fs → Next K k l → Both K (applied f es k) (applied g fs l)
-  applied-both k l f es next = check (call-like K.Symbols f es) (turn (asks-both K (call-like K.Symbols f es) next))
+  applied-both k l f es next = check (call-like K.Symbols f es) (turn (ask (call-like K.Symbols f es) next))
 
   nested-both : (n : ℕ) {f g x y : Tree} → Tr K f g → Tr K x y → Both K (nested f n x Done) (nested g n y Done)
   nested-both zero f x = done x

@@ -8,8 +8,8 @@ use Rattle.semantics.specs.Program.{Prog}
 use Rattle.semantics.specs.Sections.{critical_section, quit, is_option, without_option, parallel_map, parallel_combine, parallel_try, parallel_loop, outside_or_failed, wait_all, outside_only, are_symbols, is_submission, parallel_submit, of_symbols, print}
 use Rattle.evaluation_relations.proofs.Relate.{Opt, none, some, all_nil, all_cons, branch, case, length2}
 use Rattle.evaluation_relations.proofs.Relation.{node, mores, ends, items-like, is_name-like, is_call-like}
-use Rattle.evaluation_relations.proofs.Simulation.{moded}
-use Rattle.evaluation_relations.proofs.Kin.{Kin, Tr, Trs, Syms, Both}
+use Rattle.evaluation_relations.proofs.Kin.{Kin, Tr, Trs, Syms}
+use Rattle.evaluation_relations.proofs.Simulation.{Both, moded}
 use Rattle.evaluation_relations.proofs.ScopeRows.{symbols_in-like}
 
 module _ (K : Kin) where

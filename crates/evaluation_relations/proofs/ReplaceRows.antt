@@ -10,8 +10,9 @@ use Rattle.evaluation_relations.proofs.Relate.{Opt, none, some, all_nil, all_con
 use Rattle.evaluation_relations.proofs.Listed.{reverse2}
 use Rattle.evaluation_relations.proofs.Relation.{int, str, sym, node, Likes, ends, mores, LikeRule, listed-like, items-like, call-like, same-like, is_call-like}
 use Rattle.evaluation_relations.proofs.NumberRows.{truth-like}
-use Rattle.evaluation_relations.proofs.Simulation.{done, stop, turn, check}
-use Rattle.evaluation_relations.proofs.Kin.{Kin, Tr, Trs, Rules, Both, Next, rules-both}
+use Rattle.evaluation_relations.proofs.Kin.{Kin, Tr, Trs, Rules}
+use Rattle.evaluation_relations.proofs.Simulation.{Both, Next, done, stop, turn, check}
+use Rattle.evaluation_relations.proofs.Programs.{try_rules-both}
 
 module _ (K : Kin) where
   open K use {names}
@@ -36,11 +37,11 @@ module _ (K : Kin) where
 
   mutual
     replaced-both : {rs qs : List Rule} {e f : Tree} (k l : Tree → Prog) → Rules K rs qs → Tr K e f → Next K k l → Both K (replaced names rs e k) (replaced names qs f l)
-    replaced-both k l rules int next = rules-both K k l _ _ rules int next (next _ _ int)
-    replaced-both k l rules str next = rules-both K k l _ _ rules str next (next _ _ str)
-    replaced-both k l rules (sym s) next = rules-both K k l _ _ rules (sym s) next (next _ _ (sym s))
+    replaced-both k l rules int next = try_rules-both K k l rules int next (next _ _ int)
+    replaced-both k l rules str next = try_rules-both K k l rules str next (next _ _ str)
+    replaced-both k l rules (sym s) next = try_rules-both K k l rules (sym s) next (next _ _ (sym s))
     replaced-both k l rules (node h es) next =
-        rules-both K k l _ _ rules (node h es) next
+        try_rules-both K k l rules (node h es) next
         (replaced-both _ _ rules h (λ v x same. replaced_items-both _ _ rules es (λ vs xs all. next _ _ (node same all))))
 
     replaced_items-both : {rs qs : List Rule} {es fs : Trees} (k l : Trees → Prog) → Rules K rs qs → Likes K.Symbols es fs
@@ -72,12 +73,12 @@ module _ (K : Kin) where
   no = done (truth-like K.Symbols names K.faithful {a = false} refl)
 
   pub match_q-both : {p q : Prog} {es fs : List Tree} → Both K p q → Trs K es fs → Both K (match_q names p es) (match_q names q fs)
-  match_q-both stay (all_cons e (all_cons p all_nil)) = rules-both K _ _ _ _ (asks-like p) e (λ v x same. yes) no
+  match_q-both stay (all_cons e (all_cons p all_nil)) = try_rules-both K _ _ (asks-like p) e (λ v x same. yes) no
   match_q-both stay _ = stay
 
   member-both : {p q : Tree} {es fs : List Tree} → Tr K p q → Trs K es fs → Both K (member names p es) (member names q fs)
   member-both p all_nil = no
-  member-both p (all_cons e l) = rules-both K _ _ _ _ (asks-like p) e (λ v x same. yes) (member-both p l)
+  member-both p (all_cons e l) = try_rules-both K _ _ (asks-like p) e (λ v x same. yes) (member-both p l)
 
   pub member_q-both : {p q : Prog} {es fs : List Tree} → Both K p q → Trs K es fs → Both K (member_q names p es) (member_q names q fs)
   member_q-both stay (all_cons (node h es) (all_cons p all_nil)) = member-both p (listed-like K.Symbols es)
@@ -85,14 +86,14 @@ module _ (K : Kin) where
 
   cases_of-both : {h g : Tree} {rs qs : List Rule} {es fs so so' : List Tree} → Tr K h g → Rules K rs qs → Trs K es fs → Trs K so so' → Both K (cases_of names h rs es so) (cases_of names g qs fs so')
   cases_of-both h rules all_nil so = done (call-like K.Symbols h (reverse2 so))
-  cases_of-both h rules (all_cons e l) so = rules-both K _ _ _ _ rules e (λ v x same. cases_of-both h rules l (all_cons same so)) (cases_of-both h rules l so)
+  cases_of-both h rules (all_cons e l) so = try_rules-both K _ _ rules e (λ v x same. cases_of-both h rules l (all_cons same so)) (cases_of-both h rules l so)
 
   case_rule-like : {p q : Tree} → Tr K p q → Rules K (case_rule names p) (case_rule names q)
   case_rule-like p = case (Rules K) (rule_of-like p) all_nil (λ a b one. all_cons one all_nil)
 
   matching-both : {h g p q : Tree} {es fs so so' : List Tree} → Tr K h g → Tr K p q → Trs K es fs → Trs K so so' → Both K (matching names h p es so) (matching names g q fs so')
   matching-both h p all_nil so = done (call-like K.Symbols h (reverse2 so))
-  matching-both h p (all_cons e l) so = rules-both K _ _ _ _ (asks-like p) e (λ v x same. matching-both h p l (all_cons e so)) (matching-both h p l so)
+  matching-both h p (all_cons e l) so = try_rules-both K _ _ (asks-like p) e (λ v x same. matching-both h p l (all_cons e so)) (matching-both h p l so)
 
   by_rules : {h g p q : Tree} {es fs : List Tree} {rs qs : List Rule} → Tr K h g → Tr K p q → Trs K es fs → Rules K rs qs
       → Both K (elim rs [ [] ↦ matching names h p es [] | r ∷ rest ↦ cases_of names h (r ∷ rest) es [] ]) (elim qs [ [] ↦ matching names g q fs [] | r ∷ rest ↦ cases_of names g (r ∷ rest) fs [] ])
@@ -105,7 +106,7 @@ module _ (K : Kin) where
 
   count_of-both : (n : ℕ) {p q : Tree} {es fs : List Tree} → Tr K p q → Trs K es fs → Both K (count_of names p es n) (count_of names q fs n)
   count_of-both n p all_nil = done int
-  count_of-both n p (all_cons e l) = rules-both K _ _ _ _ (asks-like p) e (λ v x same. count_of-both (suc n) p l) (count_of-both n p l)
+  count_of-both n p (all_cons e l) = try_rules-both K _ _ (asks-like p) e (λ v x same. count_of-both (suc n) p l) (count_of-both n p l)
 
   pub count_row-both : {p q : Prog} {es fs : List Tree} → Both K p q → Trs K es fs → Both K (count_row names p es) (count_row names q fs)
   count_row-both stay (all_cons (node h es) (all_cons p all_nil)) = count_of-both 0 p (listed-like K.Symbols es)
@@ -113,10 +114,10 @@ module _ (K : Kin) where
 
   mutual
     free-both : {p q e f : Tree} (k l : Prog) → Tr K p q → Tr K e f → Both K k l → Both K (free names p e k) (free names q f l)
-    free-both k l p int next = rules-both K _ _ _ _ (asks-like p) int (λ v x same. no) next
-    free-both k l p str next = rules-both K _ _ _ _ (asks-like p) str (λ v x same. no) next
-    free-both k l p (sym s) next = rules-both K _ _ _ _ (asks-like p) (sym s) (λ v x same. no) next
-    free-both k l p (node h es) next = rules-both K _ _ _ _ (asks-like p) (node h es) (λ v x same. no) (free-both _ _ p h (free_items-both k l p es next))
+    free-both k l p int next = try_rules-both K _ _ (asks-like p) int (λ v x same. no) next
+    free-both k l p str next = try_rules-both K _ _ (asks-like p) str (λ v x same. no) next
+    free-both k l p (sym s) next = try_rules-both K _ _ (asks-like p) (sym s) (λ v x same. no) next
+    free-both k l p (node h es) next = try_rules-both K _ _ (asks-like p) (node h es) (λ v x same. no) (free-both _ _ p h (free_items-both k l p es next))
 
     free_items-both : {p q : Tree} {es fs : Trees} (k l : Prog) → Tr K p q → Likes K.Symbols es fs → Both K k l → Both K (free_items names p es k) (free_items names q fs l)
     free_items-both k l p ends next = next

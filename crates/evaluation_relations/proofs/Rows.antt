@@ -17,16 +17,15 @@ use Rattle.evaluation_relations.proofs.SumRow as Sum
 use Rattle.evaluation_relations.proofs.SumRow.{LikeWorked, stays, gives, too_wide}
 use Rattle.evaluation_relations.proofs.NumberRows as N
 use Rattle.evaluation_relations.proofs.ListRows as L
-use Rattle.evaluation_relations.proofs.Simulation.{done, stop}
-use Rattle.evaluation_relations.proofs.Passes.{Rows, pass-alike}
-use Rattle.evaluation_relations.proofs.Kin.{Kin, like, sound, Tr, Trs, Both, name-both, made-both}
+use Rattle.evaluation_relations.proofs.Kin.{Kin, Tr, Trs}
+use Rattle.evaluation_relations.proofs.Simulation.{Both, done, stop}
+use Rattle.evaluation_relations.proofs.Programs.{name-both, made-both}
 use Rattle.evaluation_relations.proofs.ControlRows as Control
 use Rattle.evaluation_relations.proofs.ScopeRows as Scope
 use Rattle.evaluation_relations.proofs.AssignRows.{to_head, to_items}
 use Rattle.evaluation_relations.proofs.ChangeRows as Change
 use Rattle.evaluation_relations.proofs.ReplaceRows as Replace
 use Rattle.evaluation_relations.proofs.ModeRows as Mode
-use Rattle.semantics.specs.Pass.{pass}
 
 module _ (S : Sym → Sym → Type 0) (names : Names) (F : Faithful S names) where
   is_atom-like : {e f : Tree} → Like S e f → is_atom e ≡ is_atom f
@@ -183,14 +182,3 @@ module _ (K : Kin) where
   row-both Builtin.SetSharedFunction stay l = Mode.of_symbols-both K Builtin.SetSharedFunction stay l
   row-both Builtin.Print stay l = Mode.print-both K l
   row-both r stay l = as_program-both stay (worked-like K.Symbols names K.faithful r l)
-
-  owed : Rows (like K) names (sound K)
-  owed =
-      record {
-        rows = λ w r p q es fs both l. row-both r (both tt tt) l;
-        applications = λ w p q ps qs es fs both parameters args. Scope.apply_function-both K (both tt tt) parameters args;
-      }
-
-  -- one pass on related expressions
-  pub pass-both : (e f : Tree) → Tr K e f → Both K (pass names e) (pass names f)
-  pass-both e f one = pass-alike (like K) names (sound K) owed tt e f one

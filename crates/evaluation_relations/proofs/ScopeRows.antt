@@ -10,8 +10,8 @@ use Rattle.semantics.specs.Scoping.{plain_local, valued_local, local_of, locals_
 use Rattle.evaluation_relations.proofs.Relate.{Opt, none, some, All, all_nil, all_cons, branch, case, append2, length2}
 use Rattle.evaluation_relations.proofs.Listed.{drop2, same_case}
 use Rattle.evaluation_relations.proofs.Relation.{int, str, sym, node, Likes, ends, mores, LikeBound, LikeLocal, listed-like, items-like, is_name-like, is_call-like, among-like, as_one-like, put_in_place-like}
-use Rattle.evaluation_relations.proofs.Simulation.{done, look, put, fresh, moded}
-use Rattle.evaluation_relations.proofs.Kin.{Kin, Tr, Trs, Syms, Locs, Both, asks-both, within-both}
+use Rattle.evaluation_relations.proofs.Kin.{Kin, Tr, Trs, Syms, Locs}
+use Rattle.evaluation_relations.proofs.Simulation.{Both, ask, within, done, look, put, fresh, moded}
 
 module _ (K : Kin) where
   open K use {names}
@@ -56,7 +56,7 @@ module _ (K : Kin) where
   ask_values-both k l all_nil so next = next _ _ so
   ask_values-both k l (all_cons one rest) so next =
       case (Both K) one.value (ask_values-both k l rest (append2 so (all_cons one all_nil)) next)
-      (λ v x same. asks-both K same (λ y z evaluated. ask_values-both k l rest (append2 so (all_cons (record { symbol = one.symbol; value = some evaluated }) all_nil)) next))
+      (λ v x same. ask same (λ y z evaluated. ask_values-both k l rest (append2 so (all_cons (record { symbol = one.symbol; value = some evaluated }) all_nil)) next))
 
   -- ---- the three forms
 
@@ -85,7 +85,7 @@ module _ (K : Kin) where
 
   pub module_form-both : NextForm (module_form names) (module_form names)
   module_form-both ls ms e f locals body =
-      fresh (λ u g m n numbers. ask_values-both _ _ locals all_nil (λ vs xs values. make_all-both (with_number-like m n numbers values)
+      fresh (λ m n numbers. ask_values-both _ _ locals all_nil (λ vs xs values. make_all-both (with_number-like m n numbers values)
       (done (put_in_place-like K.Symbols names K.faithful _ _ (renaming-like m n numbers values) body))))
 
   unless_any_shared-both : {ss ts : List Sym} {p q : Prog} → Syms K ss ts → Both K p q → Both K (unless_any_shared names ss p) (unless_any_shared names ts q)
@@ -94,7 +94,7 @@ module _ (K : Kin) where
 
   pub block_form-both : NextForm (block_form names) (block_form names)
   block_form-both ls ms e f locals body =
-      unless_any_shared-both (symbols_of-like locals) (ask_values-both _ _ locals all_nil (λ vs xs values. within-both K values body (λ v x same. done same)))
+      unless_any_shared-both (symbols_of-like locals) (ask_values-both _ _ locals all_nil (λ vs xs values. within values body (λ v x same. done same)))
 
   values_in-like : {ls ms : List Local} → Locs K ls ms → Opt (All (LikeBound K.Symbols)) (values_in ls) (values_in ms)
   values_in-like all_nil = some all_nil

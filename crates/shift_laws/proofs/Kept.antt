@@ -10,8 +10,8 @@ use Rattle.semantics.specs.Eval.{Event, Ended, over, eval}
 use Rattle.evaluation_relations.proofs.Beyond.{Past, Beyond, put_number, back_number}
 use Rattle.evaluation_relations.proofs.Relation.{Faithful, size-like, depth-like, same-like}
 use Rattle.evaluation_relations.proofs.Simulation.{Numbered, evenly, past, Ends, value, stopped, quit, Quietly, quiet, used, beyond, Related, eval_at-alike}
-use Rattle.evaluation_relations.proofs.Kin.{Kin, like}
-use Rattle.evaluation_relations.proofs.Rows.{pass-both}
+use Rattle.evaluation_relations.proofs.Kin.{Kin}
+use Rattle.evaluation_relations.proofs.Passes.{pass-both}
 use Rattle.evaluation_relations.proofs.States.{LikeState, seen-like, written-like, put_locals-like, put_back-like}
 use Rattle.evaluation_relations.proofs.Shift.{shifted_above, shift_is_faithful}
 use Rattle.number_laws.proofs.Paying.{Paid, Ensures, grew, eval_pays, used_over}
@@ -52,10 +52,10 @@ module _ (set : Setting) (from by bound : ℕ) (plain : 0 < from) (room : bound 
   not_last : (n : ℕ) → n < last_number → (n == last_number) ≡ false
   not_last n less = ne_eqb n last_number (λ e. lt_irrefl last_number (subst (λ k. k < last_number) e less))
 
-  number-ends : (s t : State) → States s t → Numbered (like kin) s t
+  number-ends : (s t : State) → States s t → Numbered kin s t
   number-ends s t states = go (ltb s.definitions.module_number bound) refl
     where
-      go : (b : Bool) → ltb s.definitions.module_number bound ≡ b → Numbered (like kin) s t
+      go : (b : Bool) → ltb s.definitions.module_number bound ≡ b → Numbered kin s t
       go true e =
           evenly (not_last _ (omega (arith, ltb-true s.definitions.module_number bound e, room))
           ∙ sym (not_last _ (omega (arith, ltb-true s.definitions.module_number bound e, room, states.number.0))))
@@ -67,37 +67,36 @@ module _ (set : Setting) (from by bound : ℕ) (plain : 0 < from) (room : bound 
   number-stays : (m m' n n' : ℕ) → m' ≡ m → n' ≡ n → N m n → N m' n'
   number-stays m m' n n' e f numbers = (omega (arith, e, f, numbers.0), omega (arith, e, numbers.1))
 
-  related : Related (like kin) set
+  related : Related kin set
   related =
       record {
-        sizes = λ w e f one i. first_cause (ltb set.limits.size (size-like (S from by) one i)) (ltb set.limits.depth (depth-like (S from by) one i));
-        sames = λ w e f v x one same. same-like (S from by) set.names faithful same one;
-        keep = λ w u g e f one. one;
-        steps = λ w s t states. states.steps;
+        sizes = λ e f one i. first_cause (ltb set.limits.size (size-like (S from by) one i)) (ltb set.limits.depth (depth-like (S from by) one i));
+        sames = λ e f v x one same. same-like (S from by) set.names faithful same one;
+        steps = λ s t states. states.steps;
         limited = refl;
-        step = λ w s t states left. record {
+        step = λ s t states left. record {
           definitions = states.definitions;
           number = states.number;
           steps = ap (λ n. n + 1) states.steps;
           within = omega (arith, ltb-true s.steps set.limits.steps left);
           used = states.used;
         };
-        looks = λ w s t a b states one. seen-like (S from by) set.names faithful states.definitions one;
-        puts = λ w s t a b d c states one defined. record {
+        looks = λ s t a b states one. seen-like (S from by) set.names faithful states.definitions one;
+        puts = λ s t a b d c states one defined. record {
           definitions = written-like (S from by) set.names faithful states.definitions one defined;
           number = states.number;
           steps = states.steps;
           within = states.within;
           used = states.used;
         };
-        locals = λ w s t ls ms states locals. record {
+        locals = λ s t ls ms states locals. record {
           definitions = put_locals-like (S from by) set.names faithful locals states.definitions;
           number = number-stays _ _ _ _ (put_number bound set.limits.steps set.names ls s.definitions) (put_number bound set.limits.steps set.names ms t.definitions) states.number;
           steps = states.steps;
           within = states.within;
           used = states.used;
         };
-        backs = λ w u s t s' t' ls ms states g after locals. record {
+        backs = λ s t s' t' ls ms states after locals. record {
           definitions = put_back-like (S from by) set.names faithful locals states.definitions after.definitions;
           number = number-stays _ _ _ _ (back_number bound set.limits.steps set.names s.definitions ls s'.definitions)
               (back_number bound set.limits.steps set.names t.definitions ms t'.definitions) after.number;
@@ -105,11 +104,8 @@ module _ (set : Setting) (from by bound : ℕ) (plain : 0 < from) (room : bound 
           within = after.within;
           used = after.used;
         };
-        numbers_last = λ w s t states. number-ends s t states;
-        takes = λ w s t states. (
-          tt,
-          tt,
-          states.number,
+        numbers_last = λ s t states. number-ends s t states;
+        takes = λ s t states. (states.number,
           record {
             definitions = record { entries = states.definitions.entries; shared = states.definitions.shared; named = states.definitions.named };
             number = number-next _ _ states.number;
@@ -118,12 +114,12 @@ module _ (set : Setting) (from by bound : ℕ) (plain : 0 < from) (room : bound 
             used = states.used;
           },
         );
-        passed = λ w e f one. pass-both kin e f one;
+        passed = λ e f one. pass-both kin e f one;
       }
 
   -- ---- the two results
 
-  ends-shift : {o p : _} → Ends (like kin) tt o p → Ended p ≡ shift_outcome from by (Ended o)
+  ends-shift : {o p : _} → Ends kin o p → Ended p ≡ shift_outcome from by (Ended o)
   ends-shift (value v) = λ i. Ended (Value (tree-is from by v i))
   ends-shift stopped = refl
   ends-shift quit = refl
@@ -146,9 +142,9 @@ module _ (set : Setting) (from by bound : ℕ) (plain : 0 < from) (room : bound 
   never_past d e p events small (Ensures.used h) far free = true≢false (sym (used_over h events) ∙ free)
 
   results-shift : (d : Definitions) (e : Tree) {p q : Play} (events : List Event) → d.module_number + (set.limits.steps + set.limits.recursion) < bound
-      → Ensures (λ v t. Paid (grew e v) 0 (begun d) t) (λ t. Paid 0 set.limits.recursion (begun d) t) p → (over p events).used ≡ false → Quietly (like kin) tt p q
+      → Ensures (λ v t. Paid (grew e v) 0 (begun d) t) (λ t. Paid 0 set.limits.recursion (begun d) t) p → (over p events).used ≡ false → Quietly kin p q
       → over q events ≡ shift_evaluation from by (over p events)
-  results-shift d e events small ensured free (quiet {s = s} {t = t} u g ends states) =
+  results-shift d e events small ensured free (quiet {s = s} {t = t} ends states) =
       λ i. record {
         outcome = ends-shift ends i;
         definitions = definitions-are from by s.definitions t.definitions states.definitions states.number.0 i;
@@ -165,6 +161,6 @@ shifted_names set from by d e events plain below room free =
     let bound : ℕ = d.module_number + (set.limits.steps + set.limits.recursion) + 1 in
     let enough : bound + by ≤ last_number = omega (arith, room) in
     results-shift set from by bound plain enough d e events (omega arith) (eval_pays set set.limits.recursion e (begun d)) free
-    (eval_at-alike (like (kin set from by bound plain enough)) set (related set from by bound plain enough) set.limits.recursion tt e (shift from by e) (begun d) (begun (shift_definitions from by d))
+    (eval_at-alike (kin set from by bound plain enough) set (related set from by bound plain enough) set.limits.recursion e (shift from by e) (begun d) (begun (shift_definitions from by d))
     (shifts from by e)
     (record { definitions = definitions-shift from by d; number = (refl, below); steps = refl; within = omega arith; used = refl }))
