@@ -45,8 +45,8 @@ module _ (K : Kin) where
   changes-like {h = h'} {g = g'} h = (
     λ i. same Builtin.Set i || same Builtin.SetDelayed i || same Builtin.Unset i,
     λ i.
-    same Builtin.Increment i || same Builtin.Decrement i || same Builtin.PreIncrement i || same Builtin.PreDecrement i || same Builtin.AddTo i || same Builtin.SubtractFrom i
-    || same Builtin.TimesBy i || same Builtin.AppendTo i || same Builtin.PrependTo i || same Builtin.Clear i,
+        same Builtin.Increment i || same Builtin.Decrement i || same Builtin.PreIncrement i || same Builtin.PreDecrement i || same Builtin.AddTo i || same Builtin.SubtractFrom i
+        || same Builtin.TimesBy i || same Builtin.AppendTo i || same Builtin.PrependTo i || same Builtin.Clear i,
   )
     where
       same : (r : Builtin) → is_name names r h' ≡ is_name names r g'
