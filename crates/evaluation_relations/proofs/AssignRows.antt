@@ -8,11 +8,12 @@ use Rattle.expr_tree.specs.Tree.{Tree, normal, Trees}
 use Rattle.expr_tree.specs.Order.{text_cmp}
 use Rattle.semantics.specs.declared.builtin.Builtin.{Builtin}
 use Rattle.semantics.specs.Names.{is_name}
-use Rattle.semantics.specs.Rule.{Rule, occurrences, occurrences_in, is_untyped, is_typed, key_of, same_condition, replaces, is_replaced, replace_in, insert_in, insert, remove, has_left, condition_of}
+use Rattle.semantics.specs.Rule.{Rule, occurrences, occurrences_in, is_untyped, is_typed, key_of, same_condition, replaces, is_replaced, replace_in, insert_in, insert, remove, has_left}
 use Rattle.semantics.specs.Definitions.{Definition}
 use Rattle.semantics.specs.Assign.{Form, ToHead, ToItems, ToTag, Place, Own, Down, Up, Target, Why, NoTag, is_wrapper, inner, inner_first, add_symbol, item_symbols, all_at, at_head, is_that, tag_place, places_in, places, asked_symbols, is_normal, is_nested, has_wrapping, has_no_symbol, first_protected, refusal, attached}
 use Rattle.evaluation_relations.proofs.Relate.{Opt, none, some, All, all_nil, all_cons, branch, case, append2, length2}
-use Rattle.evaluation_relations.proofs.Relation.{int, str, sym, node, Likes, ends, mores, LikeRule, symbol-like, items-like, same-like, is_name-like, is_call-like, same_symbol-like, among-like}
+use Rattle.evaluation_relations.proofs.Relation.{int, str, sym, node, Likes, ends, mores, LikeRule, symbol-like, items-like, same-like, is_name-like, is_call-like, same_symbol-like}
+use Rattle.evaluation_relations.proofs.PutInPlace.{among-like}
 use Rattle.evaluation_relations.proofs.Programs.{condition_of-like}
 use Rattle.evaluation_relations.proofs.Kin.{Kin, Tr, Trs, Syms, Def, Rules}
 

@@ -7,16 +7,15 @@ use Rattle.semantics.specs.declared.builtin.Builtin.{Builtin}
 use Rattle.semantics.specs.Names.{name}
 use Rattle.semantics.specs.Definitions.{Definition, Attributes, has}
 use Rattle.semantics.specs.Program.{Prog, Seen}
-use Rattle.semantics.specs.Assemble.{left_side}
 use Rattle.semantics.specs.Control.{failed, null}
 use Rattle.semantics.specs.Assign.{Form, Target}
 use Rattle.semantics.specs.Changes.{see_all, is_protected, protected_in, any_shared, unless_item, noting, attach_all, attaches_shared, assign, set, set_delayed, tag_set, tag_set_delayed, holders, holds, holding, any_protected, without_left, take_away, unset_from, unset, change_own, change, old_value, new_value, plus_int, step_by, change_with, subtract_from, unless_shared_symbol, write, cleared, nothing_left, clear, clear_all, all_attributes, those, with_attributes, without_attributes, attribute_name, attribute_names, named_attributes, change_attributes, protect, attributes_row}
 use Rattle.evaluation_relations.proofs.Relate.{Opt, none, some, All, all_nil, all_cons, branch, case}
 use Rattle.evaluation_relations.proofs.Listed.{same_case}
-use Rattle.evaluation_relations.proofs.Relation.{int, str, sym, node, symbol-like, items-like, listed-like, call-like, is_call-like, make-like, name-like, ordered-like, same_symbol-like}
+use Rattle.evaluation_relations.proofs.Relation.{int, str, sym, node, symbol-like, items-like, is_call-like, make-like, name-like, ordered-like, same_symbol-like}
 use Rattle.evaluation_relations.proofs.FirstSteps.{left_side-both}
 use Rattle.evaluation_relations.proofs.Kin.{Kin, Tr, Trs, Syms, Def}
-use Rattle.evaluation_relations.proofs.Simulation.{Both, Next, ask, done, look, put, check, moded}
+use Rattle.evaluation_relations.proofs.Simulation.{Both, ask, done, look, put, check, moded}
 use Rattle.evaluation_relations.proofs.Programs.{name-both}
 use Rattle.evaluation_relations.proofs.AssignRows.{inner-like, add_symbol-like, item_symbols-like, target, LikeForm, to_tag, Targets, places-like, asked_symbols-like, refusal-like, remove-like, has_left-like, attached-like}
 

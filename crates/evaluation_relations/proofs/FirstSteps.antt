@@ -1,5 +1,5 @@
 -- The steps of a pass that the left side of an assignment goes through too.
-use Rattle.std.proofs.Common.{◌≡◌, refl, ap, subst, Bool, not, List, [], ◌∷◌, Option}
+use Rattle.std.proofs.Common.{◌≡◌, refl, ap, subst, Bool, not, List, []}
 use Rattle.std.specs.Prelude.{◌&&◌, ◌||◌}
 use Rattle.expr_tree.specs.Tree.{Tree}
 use Rattle.semantics.specs.declared.builtin.Builtin.{Builtin}

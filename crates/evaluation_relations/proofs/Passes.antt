@@ -1,5 +1,5 @@
 -- One pass on related expressions.
-use Rattle.std.proofs.Common.{◌≡◌, refl, ap, subst, Bool, not, List, Option, Some, None}
+use Rattle.std.proofs.Common.{◌≡◌, refl, ap, subst, not, List, Option, Some, None}
 use Rattle.std.specs.Prelude.{◌&&◌, ◌||◌}
 use Rattle.expr_tree.specs.declared.sym.Sym.{Sym}
 use Rattle.expr_tree.specs.Tree.{Tree}

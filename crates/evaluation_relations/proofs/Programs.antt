@@ -1,5 +1,5 @@
 -- What several rows use: results, choices by a name, trials of rules.
-use Rattle.std.proofs.Common.{◌≡◌, refl, true, false, List, [], ◌∷◌}
+use Rattle.std.proofs.Common.{◌≡◌, refl, true, false, List, []}
 use Rattle.expr_tree.specs.declared.sym.Sym.{Sym}
 use Rattle.expr_tree.specs.Tree.{Tree}
 use Rattle.expr_tree.specs.Substitution.{Binding}
@@ -11,7 +11,8 @@ use Rattle.semantics.specs.Match.{Guard, Cond, Found, Matching}
 use Rattle.semantics.specs.Definitions.{Definition}
 use Rattle.semantics.specs.Attempt.{told, try_guards, try_binding, try_bindings, try_rule, try_rules}
 use Rattle.evaluation_relations.proofs.Relate.{All, all_nil, all_cons, branch, append2, map2}
-use Rattle.evaluation_relations.proofs.Relation.{items-like, LikeBound, LikeRule, same_symbol-like, is_name-like, is_call-like, name-like, make-like, put_in_place-like}
+use Rattle.evaluation_relations.proofs.Relation.{items-like, LikeBound, LikeRule, same_symbol-like, is_name-like, is_call-like, name-like, make-like}
+use Rattle.evaluation_relations.proofs.PutInPlace.{put_in_place-like}
 use Rattle.evaluation_relations.proofs.Matching.{LikeGuard, conditions, LikeFound, matches-like, heads-like, guard_expression-like, SameHow}
 use Rattle.evaluation_relations.proofs.Kin.{Kin, Tr, Trs, Syms, Def, Rules}
 use Rattle.evaluation_relations.proofs.Simulation.{Both, Next, done, ask, look, turn, check}

@@ -17,7 +17,7 @@ use Rattle.evaluation_relations.proofs.SumRow as Sum
 use Rattle.evaluation_relations.proofs.SumRow.{LikeWorked, stays, gives, too_wide}
 use Rattle.evaluation_relations.proofs.NumberRows as N
 use Rattle.evaluation_relations.proofs.ListRows as L
-use Rattle.evaluation_relations.proofs.Kin.{Kin, Tr, Trs}
+use Rattle.evaluation_relations.proofs.Kin.{Kin, Trs}
 use Rattle.evaluation_relations.proofs.Simulation.{Both, done, stop}
 use Rattle.evaluation_relations.proofs.Programs.{name-both, made-both}
 use Rattle.evaluation_relations.proofs.ControlRows as Control

@@ -9,7 +9,8 @@ use Rattle.semantics.specs.Program.{Prog, Local}
 use Rattle.semantics.specs.Scoping.{plain_local, valued_local, local_of, locals_of, symbols_of, differ, has_base, bases_differ, ask_values, with_locals, renaming, with_number, make_all, module_form, unless_any_shared, block_form, values_in, with_form, symbols_in, paired, parameters, put_arguments, apply_function}
 use Rattle.evaluation_relations.proofs.Relate.{Opt, none, some, All, all_nil, all_cons, branch, case, append2, length2}
 use Rattle.evaluation_relations.proofs.Listed.{drop2, same_case}
-use Rattle.evaluation_relations.proofs.Relation.{int, str, sym, node, Likes, ends, mores, LikeBound, LikeLocal, listed-like, items-like, is_name-like, is_call-like, among-like, as_one-like, put_in_place-like}
+use Rattle.evaluation_relations.proofs.Relation.{int, str, sym, node, Likes, ends, mores, LikeBound, LikeLocal, listed-like, items-like, is_name-like, is_call-like}
+use Rattle.evaluation_relations.proofs.PutInPlace.{among-like, as_one-like, put_in_place-like}
 use Rattle.evaluation_relations.proofs.Kin.{Kin, Tr, Trs, Syms, Locs}
 use Rattle.evaluation_relations.proofs.Simulation.{Both, ask, within, done, look, put, fresh, moded}
 

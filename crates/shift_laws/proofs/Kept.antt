@@ -105,7 +105,8 @@ module _ (set : Setting) (from by bound : ℕ) (plain : 0 < from) (room : bound 
           used = after.used;
         };
         numbers_last = λ s t states. number-ends s t states;
-        takes = λ s t states. (states.number,
+        takes = λ s t states. (
+          states.number,
           record {
             definitions = record { entries = states.definitions.entries; shared = states.definitions.shared; named = states.definitions.named };
             number = number-next _ _ states.number;
