@@ -1,2 +1,3 @@
 pub mod Shifting
 pub mod Kept
+pub mod Unseen

@@ -8,8 +8,8 @@ use Rattle.semantics.specs.Program.{Call, Request}
 use Rattle.semantics.specs.Play.{Reply}
 use Rattle.semantics.specs.Eval.{Event, Evaluation, Outcome, eval}
 use Rattle.semantics.specs.Table.{row, worked}
-use Rattle.shift_laws.specs.Shift.{shift, shift_definitions, shift_evaluation}
-use Rattle.worked_rows.specs.Sample.{in_cell, usual, equals, x', y', int, list, made, of, plus, stopped, symbol_of_row, value}
+use Rattle.shift_laws.specs.Shift.{shift, shift_definitions, shift_evaluation, below, definitions_below, with_number}
+use Rattle.worked_rows.specs.Sample.{in_cell, usual, equals, x', y', int, list, made, of, plus, stopped, value}
 
 abbrev evaluated : Definitions → Tree → Evaluation
 evaluated d e = eval (in_cell usual) d e []
@@ -88,3 +88,43 @@ used_at_a_call = refl
 another_call : (eval (in_cell usual) (shift_definitions 1 10 empty) (shift 1 10 asks) (sent asks ∷ [])).outcome ≡ Outcome.Wrong
 unfolding eval row worked
 another_call = refl
+
+-- ---- from a greater module number
+
+-- Module[{y = 1}, {y, x$1}] is {1, 5} from 2 and from 12
+abbrev no_name : Tree
+no_name = of Builtin.Module (list (equals y' (int 1) ∷ []) ∷ list (y' ∷ made 7 1 ∷ []) ∷ [])
+
+known_is_below : definitions_below 2 known ≡ true
+unfolding eval row worked
+known_is_below = refl
+
+value_from_two : (evaluated known no_name).outcome ≡ value (list (int 1 ∷ int 5 ∷ []))
+unfolding eval row worked
+value_from_two = refl
+
+value_from_twelve : (evaluated (with_number 12 known) no_name).outcome ≡ value (list (int 1 ∷ int 5 ∷ []))
+unfolding eval row worked
+value_from_twelve = refl
+
+-- x has the value y$2, and 2 is the next number: Module[{y = 7}, x] meets it from 2, and not from 12
+abbrev meeting : Definitions
+meeting = record (evaluated empty (equals x' (made 8 2))).definitions { module_number = 2 }
+
+abbrev meets : Tree
+meets = of Builtin.Module (list (equals y' (int 7) ∷ []) ∷ x' ∷ [])
+
+meeting_is_not_below : definitions_below 2 meeting ≡ false
+unfolding eval row worked
+meeting_is_not_below = refl
+
+expression_is_below : below 2 meets ≡ true
+expression_is_below = refl
+
+value_that_is_met : (evaluated meeting meets).outcome ≡ value (int 7)
+unfolding eval row worked
+value_that_is_met = refl
+
+name_that_is_not_met : (evaluated (with_number 12 meeting) meets).outcome ≡ value (made 8 2)
+unfolding eval row worked
+name_that_is_not_met = refl
