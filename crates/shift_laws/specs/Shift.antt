@@ -56,7 +56,7 @@ abbrev pub shift_outcome : ℕ → ℕ → Outcome → Outcome
 shift_outcome from by (Ended (Value v)) = Ended (Value (shift from by v))
 shift_outcome from by o = o
 
--- the same steps and `used`, and nothing taken from the list of calls
+-- the steps, `used` and the rest of the list of calls stay
 abbrev pub shift_evaluation : ℕ → ℕ → Evaluation → Evaluation
 shift_evaluation from by a =
     record {
