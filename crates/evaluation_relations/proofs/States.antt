@@ -82,7 +82,7 @@ module _ (S : Sym → Sym → Type 0) where
     shared_as-like all_nil s = none
     shared_as-like (all_cons e l) s = branch (Opt LikeShared) (same_symbol-like S names F e.symbol s) (some e) (shared_as-like l s)
 
-    stored-like : {d c : Definitions} {s t : Sym} → LikeDefinitions d c → S s t → LikeDefinition S (stored names d s) (stored names c t)
+    pub stored-like : {d c : Definitions} {s t : Sym} → LikeDefinitions d c → S s t → LikeDefinition S (stored names d s) (stored names c t)
     stored-like d s = case (LikeDefinition S) (look_up-like d.entries s) (first_definition-like s) (λ a b one. one)
 
     definition_of-like : {d c : Definitions} {s t : Sym} → LikeDefinitions d c → S s t → LikeDefinition S (definition_of names d s) (definition_of names c t)

@@ -1,3 +1,4 @@
 pub mod Shifting
 pub mod Kept
 pub mod Unseen
+pub mod Carried

@@ -25,7 +25,7 @@ module _ (from by : ℕ) where
 
   -- ---- related to what it was
 
-  symbol-shifts : (s : Sym) → S s (shifted_symbol from by s)
+  pub symbol-shifts : (s : Sym) → S s (shifted_symbol from by s)
   symbol-shifts s = sym (moved_is_shifted from by s)
 
   mutual
@@ -92,7 +92,7 @@ module _ (from by : ℕ) where
   rule-is : (r q : Rule) → LikeRule S r q → q ≡ shift_rule from by r
   rule-is r q one = λ i. record { left = tree-is one.left i; right = tree-is one.right i }
 
-  definition-is : {d c : Definition} → LikeDefinition S d c → c ≡ shift_definition from by d
+  pub definition-is : {d c : Definition} → LikeDefinition S d c → c ≡ shift_definition from by d
   definition-is {d} {c} one =
       λ i. record {
         attributes = sym one.attributes i;

@@ -16,11 +16,11 @@ both true b e = (refl, e)
 both false b e = absurd (true≢false (sym e))
 
 module _ (from by : ℕ) where
-  symbol-stays : (s : Sym) → ltb s.number from ≡ true → shifted_symbol from by s ≡ s
+  pub symbol-stays : (s : Sym) → ltb s.number from ≡ true → shifted_symbol from by s ≡ s
   symbol-stays s e = λ i. record { base = s.base; number = cond (e i) s.number (s.number + by) }
 
   mutual
-    tree-stays : (e : Tree) → below from e ≡ true → shift from by e ≡ e
+    pub tree-stays : (e : Tree) → below from e ≡ true → shift from by e ≡ e
     tree-stays (integer n) e = refl
     tree-stays (string t) e = refl
     tree-stays (symbol s) e = ap symbol (symbol-stays s e)
@@ -30,11 +30,11 @@ module _ (from by : ℕ) where
     items-stay nil e = refl
     items-stay (cons x xs) e = let two = both (below from x) (items_below from xs) e in λ i. cons (tree-stays x two.0 i) (items-stay xs two.1 i)
 
-  value-stays : (o : Option Tree) → value_below from o ≡ true → shift_value from by o ≡ o
+  pub value-stays : (o : Option Tree) → value_below from o ≡ true → shift_value from by o ≡ o
   value-stays None e = refl
   value-stays (Some v) e = ap Some (tree-stays v e)
 
-  rules-stay : (rs : List Rule) → rules_below from rs ≡ true → map (shift_rule from by) rs ≡ rs
+  pub rules-stay : (rs : List Rule) → rules_below from rs ≡ true → map (shift_rule from by) rs ≡ rs
   rules-stay [] e = refl
   rules-stay (r ∷ rs) e =
       let two = both (below from r.left && below from r.right) (rules_below from rs) e in
@@ -53,7 +53,7 @@ module _ (from by : ℕ) where
         record { attributes = x.1.attributes; own = value-stays x.1.own own.1 i; downs = rules-stay x.1.downs downs.1 i; ups = rules-stay x.1.ups ups.1 i },
       ) ∷ entries-stay xs rest.1 i
 
-  shared-stay : (es : List Shared) → shared_below from es ≡ true → map (shift_shared from by) es ≡ es
+  pub shared-stay : (es : List Shared) → shared_below from es ≡ true → map (shift_shared from by) es ≡ es
   shared-stay [] e = refl
   shared-stay (x ∷ xs) e =
       let two = both (ltb x.symbol.number from) (shared_below from xs) e in

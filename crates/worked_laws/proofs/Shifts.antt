@@ -9,7 +9,7 @@ use Rattle.semantics.specs.Play.{Reply}
 use Rattle.semantics.specs.Eval.{Event, Evaluation, Outcome, eval}
 use Rattle.semantics.specs.Table.{row, worked}
 use Rattle.shift_laws.specs.Shift.{shift, shift_definitions, shift_evaluation, below, definitions_below, with_number}
-use Rattle.worked_rows.specs.Sample.{in_cell, usual, equals, x', y', int, list, made, of, plus, stopped, value}
+use Rattle.worked_rows.specs.Sample.{in_cell, usual, equals, h', x', y', int, list, made, of, plus, stopped, value}
 
 abbrev evaluated : Definitions → Tree → Evaluation
 evaluated d e = eval (in_cell usual) d e []
@@ -106,6 +106,11 @@ value_from_two = refl
 value_from_twelve : (evaluated (with_number 12 known) no_name).outcome ≡ value (list (int 1 ∷ int 5 ∷ []))
 unfolding eval row worked
 value_from_twelve = refl
+
+-- and from 12 where h has a value besides, on the set of all symbols but h
+value_besides : (evaluated (with_number 12 (evaluated known (equals h' (int 1))).definitions) no_name).outcome ≡ value (list (int 1 ∷ int 5 ∷ []))
+unfolding eval row worked
+value_besides = refl
 
 -- x has the value y$2, and 2 is the next number: Module[{y = 7}, x] meets it from 2, and not from 12
 abbrev meeting : Definitions
