@@ -2,3 +2,4 @@ mod Frames
 mod Numbers
 mod Shifts
 mod Quiet
+mod Named
