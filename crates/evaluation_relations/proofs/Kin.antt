@@ -26,20 +26,20 @@ pub record Kin : Type 1 where
   pub renames : (m n : ℕ) → Numbers m n → (s t : Sym) → Symbols s t → Symbols (renamed m s) (renamed n t)
 
 module _ (K : Kin) where
-  abbrev pub Tr : Tree → Tree → Type 0
-  Tr = Like K.Symbols
+  abbrev pub LikeTree : Tree → Tree → Type 0
+  LikeTree = Like K.Symbols
 
-  abbrev pub Trs : List Tree → List Tree → Type 0
-  Trs = LikeList K.Symbols
+  abbrev pub LikeTrees : List Tree → List Tree → Type 0
+  LikeTrees = LikeList K.Symbols
 
-  abbrev pub Syms : List Sym → List Sym → Type 0
-  Syms = All K.Symbols
+  abbrev pub LikeSymbols : List Sym → List Sym → Type 0
+  LikeSymbols = All K.Symbols
 
-  abbrev pub Locs : List Local → List Local → Type 0
-  Locs = All (LikeLocal K.Symbols)
+  abbrev pub LikeLocals : List Local → List Local → Type 0
+  LikeLocals = All (LikeLocal K.Symbols)
 
-  abbrev pub Def : Definition → Definition → Type 0
-  Def = LikeDefinition K.Symbols
+  abbrev pub LikeDefined : Definition → Definition → Type 0
+  LikeDefined = LikeDefinition K.Symbols
 
-  abbrev pub Rules : List Rule → List Rule → Type 0
-  Rules = All (LikeRule K.Symbols)
+  abbrev pub LikeRules : List Rule → List Rule → Type 0
+  LikeRules = All (LikeRule K.Symbols)

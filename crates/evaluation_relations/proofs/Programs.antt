@@ -14,7 +14,7 @@ use Rattle.evaluation_relations.proofs.Relate.{All, all_nil, all_cons, branch, a
 use Rattle.evaluation_relations.proofs.Relation.{items-like, LikeBound, LikeRule, same_symbol-like, is_name-like, is_call-like, name-like, make-like}
 use Rattle.evaluation_relations.proofs.PutInPlace.{put_in_place-like}
 use Rattle.evaluation_relations.proofs.Matching.{LikeGuard, conditions, LikeFound, matches-like, heads-like, guard_expression-like, SameHow}
-use Rattle.evaluation_relations.proofs.Kin.{Kin, Tr, Trs, Syms, Def, Rules}
+use Rattle.evaluation_relations.proofs.Kin.{Kin, LikeTree, LikeTrees, LikeSymbols, LikeDefined, LikeRules}
 use Rattle.evaluation_relations.proofs.Simulation.{Both, Next, done, ask, look, turn, check}
 
 module _ (K : Kin) where
@@ -23,40 +23,40 @@ module _ (K : Kin) where
   pub name-both : (row : Builtin) → Both K (Done (name names row)) (Done (name names row))
   name-both row = done (name-like K.Symbols names K.faithful row)
 
-  pub made-both : (row : Builtin) {es fs : List Tree} → Trs K es fs → Both K (Done (make names row es)) (Done (make names row fs))
+  pub made-both : (row : Builtin) {es fs : List Tree} → LikeTrees K es fs → Both K (Done (make names row es)) (Done (make names row fs))
   made-both row l = done (make-like K.Symbols names K.faithful row l)
 
-  pub by_name-both : (row : Builtin) {v x : Tree} {p q p' q' : Prog} → Tr K v x → Both K p p' → Both K q q'
+  pub by_name-both : (row : Builtin) {v x : Tree} {p q p' q' : Prog} → LikeTree K v x → Both K p p' → Both K q q'
       → Both K (elim (is_name names row v) [ true ↦ p | false ↦ q ]) (elim (is_name names row x) [ true ↦ p' | false ↦ q' ])
   by_name-both row same a b = branch (Both K) (is_name-like K.Symbols names K.faithful row same) a b
 
   -- ---- trials of rules
 
   abbrev LikeSeen : Sym × Definition → Sym × Definition → Type 0
-  LikeSeen e f = K.Symbols e.0 f.0 × Def K e.1 f.1
+  LikeSeen e f = K.Symbols e.0 f.0 × LikeDefined K e.1 f.1
 
   told-like : {es fs : List (Sym × Definition)} → All LikeSeen es fs → SameHow K.Symbols names K.faithful (told es) (told fs)
   told-like all_nil s t one = refl
   told-like (all_cons e es) s t one = branch (◌≡◌ {A = Matching}) (same_symbol-like K.Symbols names K.faithful e.0 one) (rw (e.1.attributes) refl) (told-like es s t one)
 
-  look_all-both : {ss ts : List Sym} (k l : List (Sym × Definition) → Prog) → Syms K ss ts
+  look_all-both : {ss ts : List Sym} (k l : List (Sym × Definition) → Prog) → LikeSymbols K ss ts
       → ((es fs : List (Sym × Definition)) → All LikeSeen es fs → Both K (k es) (l fs)) → Both K (look_all ss k) (look_all ts l)
   look_all-both k l all_nil next = next [] [] all_nil
   look_all-both k l (all_cons s ss) next = look s (λ x y defined shared. look_all-both _ _ ss (λ es fs rest. next _ _ (all_cons (s, defined) rest)))
 
-  condition_in-like : {es fs : List Tree} → Trs K es fs → Trs K (condition_in es) (condition_in fs)
+  condition_in-like : {es fs : List Tree} → LikeTrees K es fs → LikeTrees K (condition_in es) (condition_in fs)
   condition_in-like (all_cons r (all_cons c all_nil)) = all_cons c all_nil
   condition_in-like _ = all_nil
 
-  result_in-like : {e f : Tree} {es fs : List Tree} → Tr K e f → Trs K es fs → Tr K (result_in e es) (result_in f fs)
+  result_in-like : {e f : Tree} {es fs : List Tree} → LikeTree K e f → LikeTrees K es fs → LikeTree K (result_in e es) (result_in f fs)
   result_in-like e (all_cons r (all_cons c all_nil)) = r
   result_in-like e _ = e
 
-  pub condition_of-like : {e f : Tree} → Tr K e f → Trs K (condition_of names e) (condition_of names f)
-  condition_of-like e = branch (Trs K) (is_call-like K.Symbols names K.faithful Builtin.Condition e) (condition_in-like (items-like K.Symbols e)) all_nil
+  pub condition_of-like : {e f : Tree} → LikeTree K e f → LikeTrees K (condition_of names e) (condition_of names f)
+  condition_of-like e = branch (LikeTrees K) (is_call-like K.Symbols names K.faithful Builtin.Condition e) (condition_in-like (items-like K.Symbols e)) all_nil
 
-  result_of-like : {e f : Tree} → Tr K e f → Tr K (result_of names e) (result_of names f)
-  result_of-like e = branch (Tr K) (is_call-like K.Symbols names K.faithful Builtin.Condition e) (result_in-like e (items-like K.Symbols e)) e
+  result_of-like : {e f : Tree} → LikeTree K e f → LikeTree K (result_of names e) (result_of names f)
+  result_of-like e = branch (LikeTree K) (is_call-like K.Symbols names K.faithful Builtin.Condition e) (result_in-like e (items-like K.Symbols e)) e
 
   abbrev Bound : Binding → Binding → Type 0
   Bound = All (LikeBound K.Symbols)
@@ -76,7 +76,7 @@ module _ (K : Kin) where
       check (guard_expression-like K.Symbols names K.faithful bs one)
       (turn (ask (guard_expression-like K.Symbols names K.faithful bs one) (λ v x same. by_name-both Builtin.True same (try_guards-both bs rest pass fail) fail)))
 
-  try_bindings-both : {fs gs : List Found} {r q : Tree} (k l : Tree → Prog) {p p' : Prog} → Tr K r q → All (LikeFound K.Symbols names K.faithful) fs gs → Next K k l → Both K p p'
+  try_bindings-both : {fs gs : List Found} {r q : Tree} (k l : Tree → Prog) {p p' : Prog} → LikeTree K r q → All (LikeFound K.Symbols names K.faithful) fs gs → Next K k l → Both K p p'
       → Both K (try_bindings names r fs k p) (try_bindings names q gs l p')
   try_bindings-both k l right all_nil gives otherwise = otherwise
   try_bindings-both k l right (all_cons found rest) gives otherwise =
@@ -84,13 +84,13 @@ module _ (K : Kin) where
       (gives _ _ (put_in_place-like K.Symbols names K.faithful _ _ found.binding (result_of-like right)))
       (try_bindings-both k l right rest gives otherwise)
 
-  try_rule-both : {r q : Rule} {e f : Tree} (k l : Tree → Prog) {p p' : Prog} → LikeRule K.Symbols r q → Tr K e f → Next K k l → Both K p p' → Both K (try_rule names r e k p) (try_rule names q f l p')
+  try_rule-both : {r q : Rule} {e f : Tree} (k l : Tree → Prog) {p p' : Prog} → LikeRule K.Symbols r q → LikeTree K e f → Next K k l → Both K p p' → Both K (try_rule names r e k p) (try_rule names q f l p')
   try_rule-both k l rule e gives otherwise =
       look_all-both _ _ (heads-like K.Symbols names K.faithful rule.left)
       (λ es fs seen. try_bindings-both k l rule.right (matches-like K.Symbols names K.faithful (told es) (told fs) (told-like seen) rule.left e) gives otherwise)
 
   -- trials of a list of rules
-  pub try_rules-both : {rs qs : List Rule} {e f : Tree} (k l : Tree → Prog) {p p' : Prog} → Rules K rs qs → Tr K e f → Next K k l → Both K p p'
+  pub try_rules-both : {rs qs : List Rule} {e f : Tree} (k l : Tree → Prog) {p p' : Prog} → LikeRules K rs qs → LikeTree K e f → Next K k l → Both K p p'
       → Both K (try_rules names rs e k p) (try_rules names qs f l p')
   try_rules-both k l all_nil e gives otherwise = otherwise
   try_rules-both k l (all_cons rule rules) e gives otherwise = try_rule-both k l rule e gives (try_rules-both k l rules e gives otherwise)

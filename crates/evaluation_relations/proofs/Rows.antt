@@ -17,7 +17,7 @@ use Rattle.evaluation_relations.proofs.SumRow as Sum
 use Rattle.evaluation_relations.proofs.SumRow.{LikeWorked, stays, gives, too_wide}
 use Rattle.evaluation_relations.proofs.NumberRows as N
 use Rattle.evaluation_relations.proofs.ListRows as L
-use Rattle.evaluation_relations.proofs.Kin.{Kin, Trs}
+use Rattle.evaluation_relations.proofs.Kin.{Kin, LikeTrees}
 use Rattle.evaluation_relations.proofs.Simulation.{Both, done, stop}
 use Rattle.evaluation_relations.proofs.Programs.{name-both, made-both}
 use Rattle.evaluation_relations.proofs.ControlRows as Control
@@ -115,7 +115,7 @@ module _ (K : Kin) where
   as_program-both stay (gives e) = done e
   as_program-both stay too_wide = stop
 
-  pub row-both : (r : Builtin) {p q : Prog} {es fs : List Tree} → Both K p q → Trs K es fs → Both K (row names r p es) (row names r q fs)
+  pub row-both : (r : Builtin) {p q : Prog} {es fs : List Tree} → Both K p q → LikeTrees K es fs → Both K (row names r p es) (row names r q fs)
   unfolding row
   row-both Builtin.CompoundExpression stay l = Control.in_turn-both K stay l
   row-both Builtin.If stay l = Control.conditional-both K stay l

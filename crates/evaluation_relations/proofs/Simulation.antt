@@ -13,34 +13,34 @@ use Rattle.semantics.specs.Pass.{pass}
 use Rattle.semantics.specs.Play.{Setting, State, End, Value, Stopped, Quit, Play, Over, Evaluator, ending, on_value, leaving_locals, too_large, with_step, with_locals, without_locals, unless_stopped, stepped, settled, if_number_left, now_used, run, changed, judged, passes, eval_at, seen, written, with_definitions, last_number, after_number}
 use Rattle.language_laws.proofs.Modes.{Used, ended, Sticky, StickyEnd, ending-sticks, on_value-sticks, run-sticks, judged-sticks, passes-sticks, eval_at-sticks}
 use Rattle.evaluation_relations.proofs.Beyond.{Past, Beyond, Far, FarEnd, back-past, ending-far, on_value-far, run-far, judged-far, passes-far, eval_at-far}
-use Rattle.evaluation_relations.proofs.Kin.{Kin, Tr, Trs, Locs, Def}
+use Rattle.evaluation_relations.proofs.Kin.{Kin, LikeTree, LikeTrees, LikeLocals, LikeDefined}
 
 module _ (K : Kin) where
   open K use {States, Symbols, Numbers, bound, most_steps}
 
   -- two programs that do the same on related expressions
   pub data Both : Prog → Prog → Type 0 where
-    done : {e f : Tree} → Tr K e f → Both (Done e) (Done f)
+    done : {e f : Tree} → LikeTree K e f → Both (Done e) (Done f)
     stop : {c : Stop} → Both (Stops c) (Stops c)
     leaves : Both Quits Quits
-    ask : {e f : Tree} {k l : Tree → Prog} → Tr K e f → ((v x : Tree) → Tr K v x → Both (k v) (l x)) → Both (Ask e k) (Ask f l)
-    within : {ls ms : List Local} {e f : Tree} {k l : Tree → Prog} → Locs K ls ms → Tr K e f → ((v x : Tree) → Tr K v x → Both (k v) (l x)) → Both (Within ls e k) (Within ms f l)
-    look : {s t : Sym} {k l : Seen → Prog} → Symbols s t → ((x y : Seen) → Def K x.definition y.definition → x.shared ≡ y.shared → Both (k x) (l y)) → Both (Look s k) (Look t l)
-    put : {s t : Sym} {d c : Definition} {p q : Prog} → Symbols s t → Def K d c → Both p q → Both (Put s d p) (Put t c q)
+    ask : {e f : Tree} {k l : Tree → Prog} → LikeTree K e f → ((v x : Tree) → LikeTree K v x → Both (k v) (l x)) → Both (Ask e k) (Ask f l)
+    within : {ls ms : List Local} {e f : Tree} {k l : Tree → Prog} → LikeLocals K ls ms → LikeTree K e f → ((v x : Tree) → LikeTree K v x → Both (k v) (l x)) → Both (Within ls e k) (Within ms f l)
+    look : {s t : Sym} {k l : Seen → Prog} → Symbols s t → ((x y : Seen) → LikeDefined K x.definition y.definition → x.shared ≡ y.shared → Both (k x) (l y)) → Both (Look s k) (Look t l)
+    put : {s t : Sym} {d c : Definition} {p q : Prog} → Symbols s t → LikeDefined K d c → Both p q → Both (Put s d p) (Put t c q)
     fresh : {k l : ℕ → Prog} → ((m n : ℕ) → Numbers m n → Both (k m) (l n)) → Both (Fresh k) (Fresh l)
     turn : {p q : Prog} → Both p q → Both (Turn p) (Turn q)
-    check : {e f : Tree} {p q : Prog} → Tr K e f → Both p q → Both (Check e p) (Check f q)
+    check : {e f : Tree} {p q : Prog} → LikeTree K e f → Both p q → Both (Check e p) (Check f q)
     moded : {k l : Mode → ℕ → Prog} → Both (Moded k) (Moded l)
 
   -- what goes on with related values
   abbrev pub Next : (Tree → Prog) → (Tree → Prog) → Type 0
-  Next k l = (v x : Tree) → Tr K v x → Both (k v) (l x)
+  Next k l = (v x : Tree) → LikeTree K v x → Both (k v) (l x)
 
   abbrev pub NextList : (List Tree → Prog) → (List Tree → Prog) → Type 0
-  NextList k l = (vs xs : List Tree) → Trs K vs xs → Both (k vs) (l xs)
+  NextList k l = (vs xs : List Tree) → LikeTrees K vs xs → Both (k vs) (l xs)
 
   pub data Ends : End → End → Type 0 where
-    value : {v x : Tree} → Tr K v x → Ends (Value v) (Value x)
+    value : {v x : Tree} → LikeTree K v x → Ends (Value v) (Value x)
     stopped : {c : Stop} → Ends (Stopped c) (Stopped c)
     quit : Ends Quit Quit
 
@@ -56,31 +56,31 @@ module _ (K : Kin) where
     beyond : {p q : Play} → Beyond bound most_steps p → Quietly p q
 
   abbrev pub Follow : Evaluator → Evaluator → Type 0
-  Follow ev ew = (e f : Tree) (s t : State) → Tr K e f → States s t → Quietly (ev e s) (ew f t)
+  Follow ev ew = (e f : Tree) (s t : State) → LikeTree K e f → States s t → Quietly (ev e s) (ew f t)
 
   -- what the relations owe
   pub record Related (set : Setting) : Type 0 where
-    pub sizes : (e f : Tree) → Tr K e f → too_large set.limits e ≡ too_large set.limits f
-    pub sames : (e f v x : Tree) → Tr K e f → Tr K v x → same v e ≡ same x f
+    pub sizes : (e f : Tree) → LikeTree K e f → too_large set.limits e ≡ too_large set.limits f
+    pub sames : (e f v x : Tree) → LikeTree K e f → LikeTree K v x → same v e ≡ same x f
     pub steps : (s t : State) → States s t → s.steps ≡ t.steps
     pub limited : set.limits.steps ≡ most_steps
     pub step : (s t : State) → States s t → ltb s.steps set.limits.steps ≡ true → States (record s { steps = s.steps + 1 }) (record t { steps = t.steps + 1 })
     pub looks : (s t : State) (a b : Sym) → States s t → Symbols a b
-        → Def K (seen set.names s.definitions a).definition (seen set.names t.definitions b).definition × ((seen set.names s.definitions a).shared ≡ (seen set.names t.definitions b).shared)
-    pub puts : (s t : State) (a b : Sym) (d c : Definition) → States s t → Symbols a b → Def K d c
+        → LikeDefined K (seen set.names s.definitions a).definition (seen set.names t.definitions b).definition × ((seen set.names s.definitions a).shared ≡ (seen set.names t.definitions b).shared)
+    pub puts : (s t : State) (a b : Sym) (d c : Definition) → States s t → Symbols a b → LikeDefined K d c
         → States (with_definitions (written set.names s.definitions a d) s) (with_definitions (written set.names t.definitions b c) t)
-    pub locals : (s t : State) (ls ms : List Local) → States s t → Locs K ls ms → States (with_locals set.names ls s) (with_locals set.names ms t)
-    pub backs : (s t s' t' : State) (ls ms : List Local) → States s t → States s' t' → Locs K ls ms
+    pub locals : (s t : State) (ls ms : List Local) → States s t → LikeLocals K ls ms → States (with_locals set.names ls s) (with_locals set.names ms t)
+    pub backs : (s t s' t' : State) (ls ms : List Local) → States s t → States s' t' → LikeLocals K ls ms
         → States (without_locals set.names s.definitions ls s') (without_locals set.names t.definitions ms t')
     pub numbers_last : (s t : State) → States s t → Numbered s t
     pub takes : (s t : State) → States s t
         → Numbers (s.definitions.module_number) (t.definitions.module_number) × States (with_definitions (after_number s.definitions) s) (with_definitions (after_number t.definitions) t)
-    pub passed : (e f : Tree) → Tr K e f → Both (pass set.names e) (pass set.names f)
+    pub passed : (e f : Tree) → LikeTree K e f → Both (pass set.names e) (pass set.names f)
 
   module _ (set : Setting) (R : Related set) where
     -- related continuations
     abbrev Onward : (Tree → State → Play) → (Tree → State → Play) → Type 0
-    Onward j k = (v x : Tree) (s t : State) → Tr K v x → States s t → Quietly (j v s) (k x t)
+    Onward j k = (v x : Tree) (s t : State) → LikeTree K v x → States s t → Quietly (j v s) (k x t)
 
     abbrev OnwardEnd : (End → State → Play) → (End → State → Play) → Type 0
     OnwardEnd j k = (o p : End) (s t : State) → Ends o p → States s t → Quietly (j o s) (k p t)
@@ -170,7 +170,7 @@ module _ (K : Kin) where
     settled-alike false true e n j k next v x s t one states = absurd (Prim.cc e)
     settled-alike false false e n j k next v x s t one states = changed-alike n j k next v x s t one states
 
-    judged-alike : (n : ℕ) (j k : Tree → State → Play) → Onward j k → (e f : Tree) → Tr K e f → Onward (judged set n j e) (judged set n k f)
+    judged-alike : (n : ℕ) (j k : Tree → State → Play) → Onward j k → (e f : Tree) → LikeTree K e f → Onward (judged set n j e) (judged set n k f)
     judged-alike n j k next e f before v x s t one states =
         unless-alike _ _ s t _ _ (R.sizes v x one) states (λ s' t' states'. settled-alike _ _ (R.sames e f v x before one) n j k next v x s' t' one states')
 
