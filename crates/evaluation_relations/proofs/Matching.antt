@@ -8,7 +8,8 @@ use Rattle.semantics.specs.Names.{Names, is_name}
 use Rattle.expr_tree.specs.Substitution.{Binding}
 use Rattle.semantics.specs.Match.{Guard, Test, Cond, Found, nothing_found, Matching, Taken, runs, choices, choices_up_to, ways, is_single, first_is_single, second_is_single, wrapped, same_run, bind, guarded, when, have_head, is_one, is_some_run, Kind, blank, sequence, null_sequence, pattern, test, condition, alternatives, hold, verbatim, other, kind, Matcher, Element, literal, match_items, match_normal, match_any, match_named, construct, is_construct, how_of, matcher, matchers, matches, asked, heads, heads_in, guard_expression}
 use Rattle.evaluation_relations.proofs.Relate.{All, all_nil, all_cons, branch, case, append2, map2, joined2, length2}
-use Rattle.evaluation_relations.proofs.Relation.{Like, int, str, sym, node, Likes, ends, mores, LikeList, listed-like, call-like, count-like, head-like, Faithful, same-like, is_name-like, LikeBound, value_of-like, put_in_place-like}
+use Rattle.evaluation_relations.proofs.Relation.{Like, int, str, sym, node, Likes, ends, mores, LikeList, listed-like, call-like, count-like, head-like, Faithful, same-like, is_name-like, LikeBound}
+use Rattle.evaluation_relations.proofs.PutInPlace.{value_of-like, put_in_place-like}
 
 module _ (S : Sym → Sym → Type 0) where
   pub data LikeGuard : Guard → Guard → Type 0 where

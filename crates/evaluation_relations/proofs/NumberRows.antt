@@ -33,65 +33,31 @@ module _ (S : Sym → Sym → Type 0) where
   chosen false one other = other
 
   pub quotient-like : {es fs : List Tree} → LikeList S es fs → LikeWorked S (quotient es) (quotient fs)
-  quotient-like all_nil = stays
-  quotient-like (all_cons int all_nil) = stays
-  quotient-like (all_cons str l) = stays
-  quotient-like (all_cons (sym s) l) = stays
-  quotient-like (all_cons (node h es) l) = stays
   quotient-like (all_cons (int {n = n}) (all_cons (int {n = k}) all_nil)) = chosen (int_eq k (pos 0)) stays (int-itself (quotient_down n k))
-  quotient-like (all_cons int (all_cons str l)) = stays
-  quotient-like (all_cons int (all_cons (sym s) l)) = stays
-  quotient-like (all_cons int (all_cons (node h es) l)) = stays
-  quotient-like (all_cons int (all_cons int (all_cons e l))) = stays
+  quotient-like _ = stays
 
   pub absolute-like : {es fs : List Tree} → LikeList S es fs → LikeWorked S (absolute es) (absolute fs)
-  absolute-like all_nil = stays
   absolute-like (all_cons (int {n = n}) all_nil) = int-itself (pos (nat_abs n))
-  absolute-like (all_cons str l) = stays
-  absolute-like (all_cons (sym s) l) = stays
-  absolute-like (all_cons (node h es) l) = stays
-  absolute-like (all_cons int (all_cons e l)) = stays
+  absolute-like _ = stays
 
   pub sign-like : {es fs : List Tree} → LikeList S es fs → LikeWorked S (sign es) (sign fs)
-  sign-like all_nil = stays
   sign-like (all_cons (int {n = pos zero}) all_nil) = gives int
   sign-like (all_cons (int {n = pos (suc n)}) all_nil) = gives int
   sign-like (all_cons (int {n = negsuc n}) all_nil) = gives int
-  sign-like (all_cons (int {n = pos zero}) (all_cons e l)) = stays
-  sign-like (all_cons (int {n = pos (suc n)}) (all_cons e l)) = stays
-  sign-like (all_cons (int {n = negsuc n}) (all_cons e l)) = stays
-  sign-like (all_cons str l) = stays
-  sign-like (all_cons (sym s) l) = stays
-  sign-like (all_cons (node h es) l) = stays
+  sign-like _ = stays
 
   pub modulo-like : {es fs : List Tree} → LikeList S es fs → LikeWorked S (modulo es) (modulo fs)
-  modulo-like all_nil = stays
-  modulo-like (all_cons int all_nil) = stays
-  modulo-like (all_cons str l) = stays
-  modulo-like (all_cons (sym s) l) = stays
-  modulo-like (all_cons (node h es) l) = stays
   modulo-like (all_cons (int {n = n}) (all_cons (int {n = k}) all_nil)) = chosen (int_eq k (pos 0)) stays (int-itself (n -ℤ (k *ℤ quotient_down n k)))
-  modulo-like (all_cons int (all_cons str l)) = stays
-  modulo-like (all_cons int (all_cons (sym s) l)) = stays
-  modulo-like (all_cons int (all_cons (node h es) l)) = stays
-  modulo-like (all_cons int (all_cons int (all_cons e l))) = stays
+  modulo-like _ = stays
 
   pub factorial-like : {es fs : List Tree} → LikeList S es fs → LikeWorked S (factorial es) (factorial fs)
-  factorial-like all_nil = stays
   factorial-like (all_cons (int {n = pos n}) all_nil) = chosen (ltb 33 n) too_wide (gives int)
-  factorial-like (all_cons (int {n = negsuc n}) all_nil) = stays
-  factorial-like (all_cons (int {n = pos n}) (all_cons e l)) = stays
-  factorial-like (all_cons (int {n = negsuc n}) (all_cons e l)) = stays
-  factorial-like (all_cons str l) = stays
-  factorial-like (all_cons (sym s) l) = stays
-  factorial-like (all_cons (node h es) l) = stays
+  factorial-like _ = stays
 
   gcd_of-like : {es fs : List Tree} (d : ℕ) → LikeList S es fs → LikeWorked S (gcd_of es d) (gcd_of fs d)
   gcd_of-like d all_nil = int-itself (pos d)
   gcd_of-like d (all_cons int l) = gcd_of-like _ l
-  gcd_of-like d (all_cons str l) = stays
-  gcd_of-like d (all_cons (sym s) l) = stays
-  gcd_of-like d (all_cons (node h es) l) = stays
+  gcd_of-like _ _ = stays
 
   pub gcd-like : {es fs : List Tree} → LikeList S es fs → LikeWorked S (gcd es) (gcd fs)
   gcd-like l = gcd_of-like 0 l
@@ -99,11 +65,8 @@ module _ (S : Sym → Sym → Type 0) where
   -- ---- strings
 
   join_texts-like : {es fs : List Tree} → LikeList S es fs → join_texts es ≡ join_texts fs
-  join_texts-like all_nil = refl
-  join_texts-like (all_cons int l) = refl
   join_texts-like (all_cons (str {t = t}) l) = ap (λ o. elim o [ None ↦ None | Some u ↦ Some (t ++ u) ]) (join_texts-like l)
-  join_texts-like (all_cons (sym s) l) = refl
-  join_texts-like (all_cons (node h es) l) = refl
+  join_texts-like _ = refl
 
   joined-text : Option (List ℕ) → Worked
   joined-text o = elim o [ None ↦ Stays | Some t ↦ Gives (string t) ]
@@ -118,39 +81,26 @@ module _ (S : Sym → Sym → Type 0) where
   string_join-like {es} {fs} l = subst (λ o. LikeWorked S (joined-text (join_texts es)) (joined-text o)) (join_texts-like l) (text-itself (join_texts es))
 
   pub string_length-like : {es fs : List Tree} → LikeList S es fs → LikeWorked S (string_length es) (string_length fs)
-  string_length-like all_nil = stays
-  string_length-like (all_cons int l) = stays
   string_length-like (all_cons str all_nil) = gives int
-  string_length-like (all_cons str (all_cons e l)) = stays
-  string_length-like (all_cons (sym s) l) = stays
-  string_length-like (all_cons (node h es) l) = stays
+  string_length-like _ = stays
 
   pub string_reverse-like : {es fs : List Tree} → LikeList S es fs → LikeWorked S (string_reverse es) (string_reverse fs)
-  string_reverse-like all_nil = stays
-  string_reverse-like (all_cons int l) = stays
   string_reverse-like (all_cons str all_nil) = gives str
-  string_reverse-like (all_cons str (all_cons e l)) = stays
-  string_reverse-like (all_cons (sym s) l) = stays
-  string_reverse-like (all_cons (node h es) l) = stays
+  string_reverse-like _ = stays
 
   -- ---- tests
 
   is_datum-like : {e f : Tree} → Like S e f → is_datum e ≡ is_datum f
   is_datum-like int = refl
-  is_datum-like str = refl
-  is_datum-like (sym s) = refl
-  is_datum-like (node h es) = refl
+  is_datum-like _ = refl
 
   all_data-like : {es fs : List Tree} → LikeList S es fs → all_data es ≡ all_data fs
   all_data-like all_nil = refl
   all_data-like (all_cons e l) = rw (is_datum-like e, all_data-like l) refl
 
   integers-like : {es fs : List Tree} → LikeList S es fs → integers es ≡ integers fs
-  integers-like all_nil = refl
   integers-like (all_cons (int {n = n}) l) = ap (λ o. elim o [ None ↦ None | Some ns ↦ Some (n ∷ ns) ]) (integers-like l)
-  integers-like (all_cons str l) = refl
-  integers-like (all_cons (sym s) l) = refl
-  integers-like (all_cons (node h es) l) = refl
+  integers-like _ = refl
 
   module _ (names : Names) (F : Faithful S names) where
     pub truth-like : {a b : Bool} → a ≡ b → Like S (truth names a) (truth names b)
@@ -166,18 +116,14 @@ module _ (S : Sym → Sym → Type 0) where
     minus-like (all_cons x (all_cons y l)) = stays
 
     pub subtract-like : {es fs : List Tree} → LikeList S es fs → LikeWorked S (subtract names es) (subtract names fs)
-    subtract-like all_nil = stays
-    subtract-like (all_cons a all_nil) = stays
     subtract-like (all_cons a (all_cons b all_nil)) =
         gives (make-like S names F Builtin.Plus (all_cons a (all_cons (make-like S names F Builtin.Times (all_cons int (all_cons b all_nil))) all_nil)))
-    subtract-like (all_cons a (all_cons b (all_cons c l))) = stays
+    subtract-like _ = stays
 
     pub divide-like : {es fs : List Tree} → LikeList S es fs → LikeWorked S (divide names es) (divide names fs)
-    divide-like all_nil = stays
-    divide-like (all_cons a all_nil) = stays
     divide-like (all_cons a (all_cons b all_nil)) =
         gives (make-like S names F Builtin.Times (all_cons a (all_cons (make-like S names F Builtin.Power (all_cons b (all_cons int all_nil))) all_nil)))
-    divide-like (all_cons a (all_cons b (all_cons c l))) = stays
+    divide-like _ = stays
 
     all_same-like : {es fs : List Tree} → LikeList S es fs → all_same es ≡ all_same fs
     all_same-like all_nil = refl
@@ -188,7 +134,7 @@ module _ (S : Sym → Sym → Type 0) where
     stands_in-like e all_nil = refl
     stands_in-like e (all_cons f l) = branch (◌≡◌ {A = Bool}) (same-like S names F e f) refl (stands_in-like e l)
 
-    some_same-like : {es fs : List Tree} → LikeList S es fs → some_same es ≡ some_same fs
+    pub some_same-like : {es fs : List Tree} → LikeList S es fs → some_same es ≡ some_same fs
     some_same-like all_nil = refl
     some_same-like (all_cons e l) = rw (stands_in-like e l, some_same-like l) refl
 
@@ -227,34 +173,24 @@ module _ (S : Sym → Sym → Type 0) where
         go (Some ns) = gives (truth-like {a = chain holds ns} refl)
 
     pub parity-like : (wanted : Bool) {es fs : List Tree} → LikeList S es fs → LikeWorked S (parity names wanted es) (parity names wanted fs)
-    parity-like wanted all_nil = stays
     parity-like wanted (all_cons (int {n = n}) all_nil) = chosen (is_even (nat_abs n)) (gives (truth-like {a = wanted} refl)) (gives (truth-like {a = not wanted} refl))
     parity-like wanted (all_cons str all_nil) = gives (truth-like {a = false} refl)
     parity-like wanted (all_cons (sym s) all_nil) = gives (truth-like {a = false} refl)
     parity-like wanted (all_cons (node h es) all_nil) = gives (truth-like {a = false} refl)
-    parity-like wanted (all_cons int (all_cons e l)) = stays
-    parity-like wanted (all_cons str (all_cons e l)) = stays
-    parity-like wanted (all_cons (sym s) (all_cons e l)) = stays
-    parity-like wanted (all_cons (node h es) (all_cons e l)) = stays
+    parity-like _ _ = stays
 
     texts-like : (cs : List ℕ) → LikeList S (map (λ c. string (encode_utf8 c)) cs) (map (λ c. string (encode_utf8 c)) cs)
     texts-like [] = all_nil
     texts-like (c ∷ cs) = all_cons str (texts-like cs)
 
     pub characters-like : {es fs : List Tree} → LikeList S es fs → LikeWorked S (characters names es) (characters names fs)
-    characters-like all_nil = stays
-    characters-like (all_cons int l) = stays
     characters-like (all_cons (str {t = t}) all_nil) = gives (make-like S names F Builtin.List (texts-like (chars t)))
-    characters-like (all_cons str (all_cons e l)) = stays
-    characters-like (all_cons (sym s) l) = stays
-    characters-like (all_cons (node h es) l) = stays
+    characters-like _ = stays
 
     mutual
       integers_in-like : {e f : Tree} → Like S e f → integers_in names e ≡ integers_in names f
-      integers_in-like int = refl
-      integers_in-like str = refl
-      integers_in-like (sym s) = refl
       integers_in-like (node h es) = branch (◌≡◌ {A = Option (List ℤ)}) (is_name-like S names F Builtin.List h) (all_integers-like es) refl
+      integers_in-like _ = refl
 
       all_integers-like : {es fs : Trees} → Likes S es fs → all_integers names es ≡ all_integers names fs
       all_integers-like ends = refl
@@ -273,13 +209,8 @@ module _ (S : Sym → Sym → Type 0) where
     -- ---- products and powers
 
     factor_in-like : {e f : Tree} {es fs : List Tree} → Like S e f → LikeList S es fs → LikePart S (factor_in e es) (factor_in f fs)
-    factor_in-like e all_nil = once-like S names F e
-    factor_in-like e (all_cons b all_nil) = once-like S names F e
     factor_in-like e (all_cons b (all_cons int all_nil)) = record { number = refl; rest = b }
-    factor_in-like e (all_cons b (all_cons int (all_cons x l))) = once-like S names F e
-    factor_in-like e (all_cons b (all_cons str l)) = once-like S names F e
-    factor_in-like e (all_cons b (all_cons (sym s) l)) = once-like S names F e
-    factor_in-like e (all_cons b (all_cons (node h es) l)) = once-like S names F e
+    factor_in-like e _ = once-like S names F e
 
     factor-like : {e f : Tree} → Like S e f → LikePart S (factor names e) (factor names f)
     factor-like e = branch (LikePart S) (is_call-like S names F Builtin.Power e) (factor_in-like e (items-like S e)) (once-like S names F e)
@@ -318,15 +249,12 @@ module _ (S : Sym → Sym → Type 0) where
         (chosen (a == 0) (chosen (is_even k) (gives int) (gives int)) (chosen (is_even k) (int-itself (pos (suc a ^ k))) (int-itself (neg_ℤ (pos (suc a ^ k))))))
 
     integer_power-itself : (n k : ℤ) → LikeWorked S (integer_power n k) (integer_power n k)
-    integer_power-itself (pos zero) (pos zero) = stays
     integer_power-itself (pos zero) (pos (suc k)) = int_power-itself (pos zero) (suc k)
     integer_power-itself (pos (suc n)) (pos k) = int_power-itself (pos (suc n)) k
     integer_power-itself (negsuc n) (pos k) = int_power-itself (negsuc n) k
-    integer_power-itself (pos zero) (negsuc k) = stays
     integer_power-itself (pos (suc zero)) (negsuc k) = gives int
-    integer_power-itself (pos (suc (suc n))) (negsuc k) = stays
     integer_power-itself (negsuc zero) (negsuc k) = int_power-itself (negsuc zero) (suc k)
-    integer_power-itself (negsuc (suc n)) (negsuc k) = stays
+    integer_power-itself _ _ = stays
 
     again-like : {x y : Tree} (n : ℤ) → Like S x y
         → LikeWorked S (elim (gives_int n) [ Gives e ↦ Gives (make names Builtin.Power (x ∷ e ∷ [])) | TooWide ↦ TooWide | Stays ↦ Stays ])
@@ -343,65 +271,26 @@ module _ (S : Sym → Sym → Type 0) where
     power_of-like : {x y : Tree} (k : ℤ) → Like S x y → LikeWorked S (power_of names x k) (power_of names y k)
     power_of-like (pos zero) one = gives int
     power_of-like (pos (suc zero)) one = gives one
-    power_of-like (pos (suc (suc k))) int = stays
-    power_of-like (pos (suc (suc k))) str = stays
-    power_of-like (pos (suc (suc k))) (sym s) = stays
-    power_of-like (pos (suc (suc k))) (node h ends) = stays
-    power_of-like (pos (suc (suc k))) (node h (mores x ends)) = stays
     power_of-like (pos (suc (suc k))) (node h (mores x (mores (int {n = a}) ends))) =
         branch (LikeWorked S) (is_name-like S names F Builtin.Power h) (again-like (a *ℤ pos (suc (suc k))) x) stays
-    power_of-like (pos (suc (suc k))) (node h (mores x (mores int (mores y l)))) = stays
-    power_of-like (pos (suc (suc k))) (node h (mores x (mores str l))) = stays
-    power_of-like (pos (suc (suc k))) (node h (mores x (mores (sym s) l))) = stays
-    power_of-like (pos (suc (suc k))) (node h (mores x (mores (node g m) l))) = stays
-    power_of-like (negsuc k) int = stays
-    power_of-like (negsuc k) str = stays
-    power_of-like (negsuc k) (sym s) = stays
-    power_of-like (negsuc k) (node h ends) = stays
-    power_of-like (negsuc k) (node h (mores x ends)) = stays
     power_of-like (negsuc k) (node h (mores x (mores (int {n = a}) ends))) = branch (LikeWorked S) (is_name-like S names F Builtin.Power h) (again-like (a *ℤ negsuc k) x) stays
-    power_of-like (negsuc k) (node h (mores x (mores int (mores y l)))) = stays
-    power_of-like (negsuc k) (node h (mores x (mores str l))) = stays
-    power_of-like (negsuc k) (node h (mores x (mores (sym s) l))) = stays
-    power_of-like (negsuc k) (node h (mores x (mores (node g m) l))) = stays
+    power_of-like _ _ = stays
 
     -- an integer in front of what is none
     one_to-like : (n : ℤ) {x y : Tree} → Like S x y → ((m : ℤ) → x ≡ integer m → ⊥) → LikeWorked S (power names (integer n ∷ x ∷ [])) (power names (integer n ∷ y ∷ []))
     one_to-like n (int {n = m}) none' = absurd (none' m refl)
-    one_to-like (pos zero) str none' = stays
     one_to-like (pos (suc zero)) str none' = gives int
-    one_to-like (pos (suc (suc n))) str none' = stays
-    one_to-like (negsuc n) str none' = stays
-    one_to-like (pos zero) (sym s) none' = stays
     one_to-like (pos (suc zero)) (sym s) none' = gives int
-    one_to-like (pos (suc (suc n))) (sym s) none' = stays
-    one_to-like (negsuc n) (sym s) none' = stays
-    one_to-like (pos zero) (node h l) none' = stays
     one_to-like (pos (suc zero)) (node h l) none' = gives int
-    one_to-like (pos (suc (suc n))) (node h l) none' = stays
-    one_to-like (negsuc n) (node h l) none' = stays
+    one_to-like _ _ _ = stays
 
-    three : (n : ℤ) {x y : Tree} → Like S x y → (a b : Tree) (as' bs : List Tree) → LikeWorked S (power names (integer n ∷ x ∷ a ∷ as')) (power names (integer n ∷ y ∷ b ∷ bs))
-    three n int a b as' bs = stays
-    three (pos zero) str a b as' bs = stays
-    three (pos zero) (sym s) a b as' bs = stays
-    three (pos zero) (node h l) a b as' bs = stays
-    three (pos (suc zero)) str a b as' bs = stays
-    three (pos (suc zero)) (sym s) a b as' bs = stays
-    three (pos (suc zero)) (node h l) a b as' bs = stays
-    three (pos (suc (suc n))) str a b as' bs = stays
-    three (pos (suc (suc n))) (sym s) a b as' bs = stays
-    three (pos (suc (suc n))) (node h l) a b as' bs = stays
-    three (negsuc n) str a b as' bs = stays
-    three (negsuc n) (sym s) a b as' bs = stays
-    three (negsuc n) (node h l) a b as' bs = stays
+    three : {x y : Tree} → Like S x y → (n : ℤ) (a b : Tree) (as' bs : List Tree) → LikeWorked S (power names (integer n ∷ x ∷ a ∷ as')) (power names (integer n ∷ y ∷ b ∷ bs))
+    three str (pos (suc zero)) _ _ _ _ = stays
+    three (sym s) (pos (suc zero)) _ _ _ _ = stays
+    three (node h l) (pos (suc zero)) _ _ _ _ = stays
+    three _ _ _ _ _ _ = stays
 
     pub power-like : {es fs : List Tree} → LikeList S es fs → LikeWorked S (power names es) (power names fs)
-    power-like all_nil = stays
-    power-like (all_cons int all_nil) = stays
-    power-like (all_cons str all_nil) = stays
-    power-like (all_cons (sym s) all_nil) = stays
-    power-like (all_cons (node h l) all_nil) = stays
     power-like (all_cons (int {n = n}) (all_cons (int {n = k}) all_nil)) = integer_power-itself n k
     power-like (all_cons (int {n = n}) (all_cons str all_nil)) = one_to-like n str (λ m e. Prim.cc e)
     power-like (all_cons (int {n = n}) (all_cons (sym s) all_nil)) = one_to-like n (sym s) (λ m e. Prim.cc e)
@@ -409,28 +298,7 @@ module _ (S : Sym → Sym → Type 0) where
     power-like (all_cons str (all_cons (int {n = k}) all_nil)) = power_of-like k str
     power-like (all_cons (sym s) (all_cons (int {n = k}) all_nil)) = power_of-like k (sym s)
     power-like (all_cons (node h l) (all_cons (int {n = k}) all_nil)) = power_of-like k (node h l)
-    power-like (all_cons str (all_cons str all_nil)) = stays
-    power-like (all_cons str (all_cons (sym s) all_nil)) = stays
-    power-like (all_cons str (all_cons (node h l) all_nil)) = stays
-    power-like (all_cons (sym s) (all_cons str all_nil)) = stays
-    power-like (all_cons (sym s) (all_cons (sym t) all_nil)) = stays
-    power-like (all_cons (sym s) (all_cons (node h l) all_nil)) = stays
-    power-like (all_cons (node h l) (all_cons str all_nil)) = stays
-    power-like (all_cons (node h l) (all_cons (sym t) all_nil)) = stays
-    power-like (all_cons (node h l) (all_cons (node g m) all_nil)) = stays
-    power-like (all_cons int (all_cons int (all_cons x xs))) = stays
-    power-like (all_cons (int {n = n}) (all_cons str (all_cons x xs))) = three n str _ _ _ _
-    power-like (all_cons (int {n = n}) (all_cons (sym s) (all_cons x xs))) = three n (sym s) _ _ _ _
-    power-like (all_cons (int {n = n}) (all_cons (node h l) (all_cons x xs))) = three n (node h l) _ _ _ _
-    power-like (all_cons str (all_cons int (all_cons x xs))) = stays
-    power-like (all_cons str (all_cons str (all_cons x xs))) = stays
-    power-like (all_cons str (all_cons (sym s) (all_cons x xs))) = stays
-    power-like (all_cons str (all_cons (node h l) (all_cons x xs))) = stays
-    power-like (all_cons (sym s) (all_cons int (all_cons x xs))) = stays
-    power-like (all_cons (sym s) (all_cons str (all_cons x xs))) = stays
-    power-like (all_cons (sym s) (all_cons (sym t) (all_cons x xs))) = stays
-    power-like (all_cons (sym s) (all_cons (node h l) (all_cons x xs))) = stays
-    power-like (all_cons (node h l) (all_cons int (all_cons x xs))) = stays
-    power-like (all_cons (node h l) (all_cons str (all_cons x xs))) = stays
-    power-like (all_cons (node h l) (all_cons (sym t) (all_cons x xs))) = stays
-    power-like (all_cons (node h l) (all_cons (node g m) (all_cons x xs))) = stays
+    power-like (all_cons (int {n = n}) (all_cons str (all_cons x xs))) = three str n _ _ _ _
+    power-like (all_cons (int {n = n}) (all_cons (sym s) (all_cons x xs))) = three (sym s) n _ _ _ _
+    power-like (all_cons (int {n = n}) (all_cons (node h l) (all_cons x xs))) = three (node h l) n _ _ _ _
+    power-like _ = stays

@@ -1,5 +1,5 @@
 -- The shift of numbers from a bound on is a relation as `Relation` wants it.
-use Rattle.std.proofs.Common.{◌≡◌, refl, sym, ap, ◌∙◌, ℕ, ◌+◌, ◌<◌, Bool, true, false, cond, ltb, arith, ltb-true, ltb-false, lt-ltb, eq-eqb, ne_eqb, eqb-true, Option}
+use Rattle.std.proofs.Common.{◌≡◌, refl, sym, ap, ◌∙◌, ℕ, ◌+◌, ◌<◌, ◌≤◌, Bool, true, false, cond, ltb, arith, ltb-true, ltb-false, lt-ltb, le-ltb, eq-eqb, ne_eqb, eqb-true, Option}
 use Rattle.std.specs.Prelude.{◌==◌, ◌&&◌}
 use Rattle.std.specs.declared.cmp.Ordering.{Ordering}
 use Rattle.std.specs.declared.cmp.Ordering.TheVariants.{Less, Equal, Greater}
@@ -10,7 +10,7 @@ use Rattle.expr_tree.specs.declared.sym.Sym.{Sym}
 use Rattle.expr_tree.specs.Order.{symbol_cmp}
 use Rattle.semantics.specs.declared.builtin.Builtin.{Builtin}
 use Rattle.semantics.specs.Names.{Names}
-use Rattle.evaluation_relations.specs.Order.{ShiftKeepsOrder}
+use Rattle.evaluation_relations.specs.Order.{shifted_symbol, ShiftKeepsOrder}
 use Rattle.evaluation_relations.proofs.Relate.{branch}
 use Rattle.evaluation_relations.proofs.Relation.{Faithful}
 
@@ -43,6 +43,14 @@ module _ (from by : ℕ) where
 
   abbrev pub Shifted : Sym → Sym → Type 0
   Shifted s t = t ≡ moved s
+
+  pub moved_is_shifted : (s : Sym) → moved s ≡ shifted_symbol from by s
+  unfolding shifted
+  moved_is_shifted s = refl
+
+  pub shifted_above : (n : ℕ) → from ≤ n → shifted n ≡ n + by
+  unfolding shifted
+  shifted_above n le = ap (λ b. cond b n (n + by)) (le-ltb n from le)
 
   order_kept : (a b : Sym) → symbol_cmp a b ≡ symbol_cmp (moved a) (moved b)
   order_kept a b = ap (ordering_then (nat_cmp a.base b.base)) (same_order a.number b.number)

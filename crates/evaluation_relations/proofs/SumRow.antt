@@ -91,5 +91,5 @@ module _ (S : Sym → Sym → Type 0) where
         too_wide
 
     -- the sum of related items is related, or out of range for both
-    plus-like : {es fs : List Tree} → LikeList S es fs → LikeWorked (plus names es) (plus names fs)
+    pub plus-like : {es fs : List Tree} → LikeList S es fs → LikeWorked (plus names es) (plus names fs)
     plus-like l = total-like _ _ (gather_sum-like _ _ l (record { whole_part = refl; parts = all_nil }))

@@ -16,13 +16,13 @@ use Rattle.number_laws.specs.Bound.{going_on, NumbersBounded}
 use Rattle.number_laws.proofs.Calm.{calm, anything, seen_anyhow}
 use Rattle.number_laws.proofs.Thrift.{Simple, result, asking, putting, Thrifty, pass_thrifty}
 
-abbrev number : State → ℕ
+abbrev pub number : State → ℕ
 number s = s.definitions.module_number
 
 -- from s to t: g steps are to spare, b numbers are not paid
-record Paid (g b : ℕ) (s t : State) : Type 0 where
-  rises : number s ≤ number t
-  pays : number t + (s.steps + g) ≤ number s + (t.steps + b)
+pub record Paid (g b : ℕ) (s t : State) : Type 0 where
+  pub rises : number s ≤ number t
+  pub pays : number t + (s.steps + g) ≤ number s + (t.steps + b)
 
 itself : (s : State) → Paid 0 0 s s
 itself s = record { rises = le_refl (number s); pays = omega arith }
@@ -36,7 +36,7 @@ less {s} {t} {g} {b} g' b' one le = record { rises = one.rises; pays = omega (ar
 
 -- ---- what a play ensures, unless `used` is true
 
-data Ensures (V : Tree → State → Type 0) (S : State → Type 0) : Play → Type 0 where
+pub data Ensures (V : Tree → State → Type 0) (S : State → Type 0) : Play → Type 0 where
   value : {v : Tree} {t : State} → V v t → Ensures V S (Over (Value v) t)
   stopped : {c : Stop} {t : State} → S t → Ensures V S (Over (Stopped c) t)
   quits : {t : State} → S t → Ensures V S (Over Quit t)
@@ -84,7 +84,7 @@ one_step s = record { rises = le_refl (number s); pays = omega arith }
 one_number : (s : State) → Paid 0 1 s (with_definitions (after_number s.definitions) s)
 one_number s = record { rises = omega arith; pays = omega arith }
 
-abbrev bit : Bool → ℕ
+abbrev pub bit : Bool → ℕ
 bit true = 1
 bit false = 0
 
@@ -92,7 +92,7 @@ bit-small : (b : Bool) → bit b ≤ 1
 bit-small true = omega arith
 bit-small false = omega arith
 
-abbrev grew : Tree → Tree → ℕ
+abbrev pub grew : Tree → Tree → ℕ
 grew e v = bit (ltb (size e) (size v))
 
 -- growth in two parts
@@ -260,13 +260,13 @@ module _ (set : Setting) (n : ℕ) (ev : Evaluator) (sticky : Sticky ev) where
         (λ r t one. judged_pays (suc left) (λ v t. passes set ev left v t) e r s t (λ v u. passes_pay left v u) one)
         (λ t one. one) (thrifty_run (size e) s (pass_thrifty set.names e) s (itself s))
 
-eval_pays : (set : Setting) (n : ℕ) (e : Tree) (s : State) → Ensures (λ v t. Paid (grew e v) 0 s t) (λ t. Paid 0 n s t) (eval_at set n e s)
+pub eval_pays : (set : Setting) (n : ℕ) (e : Tree) (s : State) → Ensures (λ v t. Paid (grew e v) 0 s t) (λ t. Paid 0 n s t) (eval_at set n e s)
 eval_pays set zero e s = stopped (itself s)
 eval_pays set (suc n) e s = passes_pay set n (λ a b. eval_at set n a b) (eval_at-sticks set n) (λ a b. eval_pays set n a b) set.limits.iteration e s
 
 -- ---- along a list
 
-used_over : {p : Play} → Used p → (events : List Event) → (over p events).used ≡ true
+pub used_over : {p : Play} → Used p → (events : List Event) → (over p events).used ≡ true
 used_over (ended h) events = h
 used_over (called h next) [] = h
 used_over (called {c = c} {s = s} {k = k} h next) (a ∷ rest) = go (same_call a.call c) (used_over (next a.reply a.after) rest)

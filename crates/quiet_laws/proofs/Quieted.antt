@@ -27,7 +27,7 @@ stored_stand names d s t e = go (look_up d.entries s) e
     go None e = e
     go (Some definition) e = e
 
-closure_closed : (names : Names) (d : Definitions) (seeds : List Sym) → NoNameShared names d → IsClosed names d (InClosure names d seeds)
+pub closure_closed : (names : Names) (d : Definitions) (seeds : List Sym) → NoNameShared names d → IsClosed names d (InClosure names d seeds)
 closure_closed names d seeds free =
     record {
       followed = λ s t s_in unshared e. followed s t s_in unshared (stored_stand names d s t e);
@@ -39,11 +39,11 @@ closure_closed names d seeds free =
 pub agree_itself : (names : Names) (C : Sym → Type 0) (d : Definitions) → AgreeOn names C d d
 agree_itself names C d = record { shared = refl; number = refl; same = λ s s_in free. refl }
 
-agree_turned : (names : Names) (C : Sym → Type 0) (d c : Definitions) → AgreeOn names C d c → AgreeOn names C c d
+pub agree_turned : (names : Names) (C : Sym → Type 0) (d c : Definitions) → AgreeOn names C d c → AgreeOn names C c d
 agree_turned names C d c one =
     record { shared = sym one.shared; number = sym one.number; same = λ s s_in free. sym (one.same s s_in (subst (λ l. is_shared (record c { shared = l }) s ≡ false) (sym one.shared) free)) }
 
-agree_on : (names : Names) (C : Sym → Type 0) (a b c : Definitions) → AgreeOn names C a b → AgreeOn names C b c → AgreeOn names C a c
+pub agree_on : (names : Names) (C : Sym → Type 0) (a b c : Definitions) → AgreeOn names C a b → AgreeOn names C b c → AgreeOn names C a c
 agree_on names C a b c one two =
     record {
       shared = one.shared ∙ two.shared;
@@ -51,7 +51,7 @@ agree_on names C a b c one two =
       same = λ s s_in free. one.same s s_in free ∙ two.same s s_in (subst (λ l. is_shared (record b { shared = l }) s ≡ false) one.shared free);
     }
 
-closed_again : (names : Names) (C : Sym → Type 0) (d c : Definitions) → IsClosed names d C → AgreeOn names C d c → IsClosed names c C
+pub closed_again : (names : Names) (C : Sym → Type 0) (d c : Definitions) → IsClosed names d C → AgreeOn names C d c → IsClosed names c C
 closed_again names C d c close one =
     record {
       followed = λ s t s_in free e.
@@ -65,18 +65,18 @@ closed_again names C d c close one =
 pub ended_needs : {o : End} {c : Call} → ◌≡◌ {A = Outcome} (Needs c) (Ended o) → ⊥
 ended_needs e = Prim.cc e
 
-record AsAlone (events : List Event) (a b : Evaluation) : Type 0 where
-  outcome : b.outcome ≡ a.outcome
-  definitions : b.definitions ≡ a.definitions
-  steps : b.steps ≡ a.steps
-  used : b.used ≡ a.used
-  rest : b.rest ≡ events
+pub record AsAlone (events : List Event) (a b : Evaluation) : Type 0 where
+  pub outcome : b.outcome ≡ a.outcome
+  pub definitions : b.definitions ≡ a.definitions
+  pub steps : b.steps ≡ a.steps
+  pub used : b.used ≡ a.used
+  pub rest : b.rest ≡ events
 
 over_any : (p : Play) (o : End) (events : List Event) → (over p []).outcome ≡ Ended o → AsAlone events (over p []) (over p events)
 over_any (Over e s) o events is = record { outcome = refl; definitions = refl; steps = refl; used = refl; rest = refl }
 over_any (Calls c s k) o events is = absurd (ended_needs is)
 
-eval_any : (set : Setting) (d : Definitions) (e : Tree) (o : End) (events : List Event) → (eval set d e []).outcome ≡ Ended o → AsAlone events (eval set d e []) (eval set d e events)
+pub eval_any : (set : Setting) (d : Definitions) (e : Tree) (o : End) (events : List Event) → (eval set d e []).outcome ≡ Ended o → AsAlone events (eval set d e []) (eval set d e events)
 unfolding eval
 eval_any set d e o events is = over_any (whole set d e) o events is
 

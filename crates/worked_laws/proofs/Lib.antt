@@ -1,3 +1,5 @@
 mod Frames
 mod Numbers
+mod Shifts
 mod Quiet
+mod Named

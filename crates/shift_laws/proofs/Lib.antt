@@ -1,0 +1,4 @@
+pub mod Shifting
+pub mod Kept
+pub mod Unseen
+pub mod Carried
