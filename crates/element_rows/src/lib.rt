@@ -1,4 +1,4 @@
-//! The rows of the built-in table that are functions of their elements, but for those of arithmetic.
+//! The rows of the built-in table that are functions of their elements.
 #![tactic(auto)]
 
 ghost use Rattle.std.specs.Prelude.{◌≡◌, IfSome, is_some};
@@ -30,5 +30,8 @@ pub fn rewrite(
     if let Some(made) = list_ops::rewrite(alloc, row, names, items) {
         return Some(made);
     }
-    string_rows::rewrite(alloc, row, names, items)
+    if let Some(made) = string_rows::rewrite(alloc, row, names, items) {
+        return Some(made);
+    }
+    number_rows::rewrite(alloc, row, names, items)
 }

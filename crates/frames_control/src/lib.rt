@@ -14,8 +14,6 @@ mod nest;
 mod nest_list;
 mod select;
 mod stack;
-#[cfg(test)]
-mod tests;
 mod which;
 mod while_loop;
 

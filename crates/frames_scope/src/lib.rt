@@ -9,8 +9,6 @@ mod moves;
 mod placing;
 mod reading;
 mod symbols;
-#[cfg(test)]
-mod tests;
 mod with_form;
 
 pub use block_form::Block;
