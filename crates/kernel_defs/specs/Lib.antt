@@ -1,2 +1,7 @@
 pub mod Targets
 pub mod Definition
+pub mod Chains
+pub mod Table
+pub mod Locals
+pub mod Saved
+pub mod Defs
