@@ -7,3 +7,6 @@ pub mod Locals
 pub mod Written
 pub mod Attributes
 pub mod Tables
+pub mod Seen
+pub mod Refused
+pub mod Runs

@@ -1,14 +1,14 @@
 -- Locals that were put by one after another are put back as they were before the first.
-use Rattle.std.proofs.Common.{◌≡◌, ◌∙◌, refl, sym, ap, Bool, true, false, List, [], ◌∷◌, ◌++◌, Option}
+use Rattle.std.proofs.Common.{◌≡◌, ◌∙◌, refl, sym, ap, Bool, true, false, List, [], ◌∷◌, ◌++◌, Option, Some, None}
 use Rattle.expr_tree.specs.declared.sym.Sym.{Sym}
 use Rattle.expr_tree.specs.Order.{same_symbol}
 use Rattle.semantics.specs.Names.{Names}
 use Rattle.semantics.specs.Definitions.{Definition, Definitions, look_up, drop_entry, add_entry, is_first, put, stored}
 use Rattle.semantics.specs.Program.{Local}
 use Rattle.semantics.specs.Play.{local_definition, put_back}
-use Rattle.kernel_defs.specs.Locals.{or_first, saved_along, restored}
+use Rattle.kernel_defs.specs.Locals.{linked, without, or_first, saved_along, restored}
 use Rattle.kernel_defs.specs.Table.{Ascends}
-use Rattle.kernel_defs.proofs.Entries.{Entries, same-eq, apart_back, swapped, added_other, dropped_same, dropped_other, dropped_added, dropped_twice, dropped_dropped, added_dropped, ascends_added, ascends_dropped}
+use Rattle.kernel_defs.proofs.Entries.{dropped_absent, Entries, same-eq, apart_back, swapped, added_other, dropped_same, dropped_other, dropped_added, dropped_twice, dropped_dropped, added_dropped, ascends_added, ascends_dropped}
 
 -- ---- entries that are put
 
@@ -93,3 +93,9 @@ pub restored_last : (names : Names) (es : List (Sym × Option Definition)) (e : 
     → restored names (es ++ e ∷ []) d ≡ restored names es (put names d e.0 (or_first names e.0 e.1))
 restored_last names [] e d = refl
 restored_last names (x ∷ es) e d = ap (λ y. put names y x.0 (or_first names x.0 x.1)) (restored_last names es e d)
+
+-- what was taken out and is linked again changes nothing
+pub linked_again : (old d : Definitions) (s : Sym) (o : Option Definition) → o ≡ look_up old.entries s → d ≡ without old s
+    → ((x : Definition) → look_up old.entries s ≡ Some x → old ≡ record d { entries = add_entry d.entries s x }) → linked (s, o) d ≡ old
+linked_again old d s None p q back = q ∙ ap (λ es. record old { entries = es }) (dropped_absent old.entries s (sym p))
+linked_again old d s (Some x) p q back = sym (back x (sym p))

@@ -5,3 +5,4 @@ pub mod Table
 pub mod Locals
 pub mod Saved
 pub mod Defs
+pub mod Assigned
