@@ -1,8 +1,11 @@
 -- What is seen of a symbol, from its entry.
-use Rattle.std.proofs.Common.{◌≡◌, ◌∙◌, refl, sym, ap, Option, Some, None}
+use Rattle.std.proofs.Common.{◌≡◌, ◌∙◌, refl, sym, ap, List, [], Option, Some, None, false}
 use Rattle.expr_tree.specs.declared.sym.Sym.{Sym}
+use Rattle.expr_tree.specs.Tree.{Tree, integer, string, symbol, normal}
 use Rattle.semantics.specs.Names.{Names}
-use Rattle.semantics.specs.Definitions.{Definition, Definitions, Shared, look_up, stored, definition_of, shared_as}
+use Rattle.semantics.specs.Rule.{Rule}
+use Rattle.semantics.specs.Changes.{holds}
+use Rattle.semantics.specs.Definitions.{Attributes, Definition, Definitions, Shared, look_up, stored, definition_of, shared_as, first_definition}
 use Rattle.kernel_defs.specs.Locals.{or_first}
 
 abbrev seen_as : Option Shared → Definition → Definition
@@ -37,3 +40,28 @@ attributes_alone names d s p = sym (ap (λ o. (seen_as o (stored names d s)).att
 
 pub attributes_shared : (names : Names) (d : Definitions) (s : Sym) (e : Shared) → shared_as d.shared s ≡ Some e → e.attributes ≡ (definition_of names d s).attributes
 attributes_shared names d s e p = sym (ap (λ o. (seen_as o (stored names d s)).attributes) p)
+
+-- ---- what is held
+
+seen_holds : (left : Tree) (o : Option Shared) (x : Definition) → holds left (seen_as o x) ≡ holds left x
+seen_holds (integer n) None x = refl
+seen_holds (integer n) (Some e) x = refl
+seen_holds (string t) None x = refl
+seen_holds (string t) (Some e) x = refl
+seen_holds (symbol s) None x = refl
+seen_holds (symbol s) (Some e) x = refl
+seen_holds (normal h es) None x = refl
+seen_holds (normal h es) (Some e) x = refl
+
+first_holds : (names : Names) (s : Sym) (left : Tree) → holds left (first_definition names s) ≡ false
+first_holds names s (integer n) = refl
+first_holds names s (string t) = refl
+first_holds names s (symbol r) = refl
+first_holds names s (normal h es) = refl
+
+pub holds_found : (names : Names) (d : Definitions) (s : Sym) (left : Tree) (x : Definition) → Some x ≡ look_up d.entries s → holds left x ≡ holds left (definition_of names d s)
+holds_found names d s left x p = ap (λ o. holds left (or_first names s o)) p ∙ sym (seen_holds left (shared_as d.shared s) (stored names d s))
+
+pub holds_absent : (names : Names) (d : Definitions) (s : Sym) (left : Tree) → None ≡ look_up d.entries s → false ≡ holds left (definition_of names d s)
+holds_absent names d s left p =
+    sym (first_holds names s left) ∙ ap (λ o. holds left (or_first names s o)) p ∙ sym (seen_holds left (shared_as d.shared s) (stored names d s))

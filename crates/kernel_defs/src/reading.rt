@@ -74,4 +74,14 @@ impl Defs {
             None => &[],
         }
     }
+
+    /// Whether a symbol has an own value, for a symbol as left side, or a rule with this left side.
+    pub fn holds(&self, symbol: Sym, left: &Expr) -> bool
+        ensures { (names : n.Names) → result ≡ changes.holds left.now (d.definition_of names self.now symbol) }
+    {
+        match self.find(symbol) {
+            Some(definition) => definition.holds(left),
+            None => false,
+        }
+    }
 }
