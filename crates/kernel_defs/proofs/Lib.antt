@@ -1,3 +1,12 @@
 pub mod Wrappers
 pub mod Ups
 pub mod Shapes
+pub mod Entries
+pub mod Adding
+pub mod Locals
+pub mod Written
+pub mod Attributes
+pub mod Tables
+pub mod Seen
+pub mod Refused
+pub mod Runs

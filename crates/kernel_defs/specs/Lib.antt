@@ -1,2 +1,8 @@
 pub mod Targets
 pub mod Definition
+pub mod Chains
+pub mod Table
+pub mod Locals
+pub mod Saved
+pub mod Defs
+pub mod Assigned

@@ -1,0 +1,41 @@
+use Rattle.std.proofs.Common.{◌≡◌, ◌∙◌, ap, sym, []}
+use Rattle.semantics.specs.Definitions.{Definition, Definitions, stored, shared_as}
+use Rattle.semantics.specs.Play.{local_definition}
+use Rattle.builtin_names.specs.Attributes.{attributes_in}
+use Rattle.builtin_names.specs.Named.{names_in}
+use Rattle.kernel_defs.specs.Definition.{definition_of}
+use Rattle.kernel_defs.proofs.Written.{absent_after, put_changed, or_stored, written_new}
+use Rattle.kernel_defs.proofs.defs.Defs.make.Goals as goal
+
+pub returns-clause-ok : goal.returns-clause-ok
+returns-clause-ok c =
+    let old : Definitions = c.args.self.now in
+    let x : Definition = stored (names_in c.args.names.now) old c.args.symbol in
+    let was : definition_of c.deref.result.now.definition ≡ x = ap (λ e. definition_of e.definition) c.deref.ensures ∙ c.in_ok-entry.ensures.definition in
+    let attributes : attributes_in c.written_attrs-kept.result ≡ or_stored (shared_as old.shared c.args.symbol) (attributes_in c.none.result) x.attributes =
+    c.written_attrs-kept.ensures
+    ∙ ap (λ m. or_stored (shared_as m.shared c.args.symbol) (attributes_in c.none.result) (attributes_in c.deref.result.now.definition.attrs)) c.in_ok-entry.ensures.rest
+    ∙ ap (λ y. or_stored (shared_as old.shared c.args.symbol) (attributes_in c.none.result) y.attributes) was
+    in
+    let new : Definition = local_definition (record { symbol = c.args.symbol; value = c.args.value }) in
+    let after : Definition = record new { attributes = or_stored (shared_as old.shared c.args.symbol) [] x.attributes } in
+    c.store.ensures
+    ∙ put_changed (names_in c.args.names.now) old c.take_or_first.new.self c.args.symbol c.set.new.self.symbol (definition_of c.set.new.self.definition) after
+    c.in_ok-entry.ensures.rest (c.set.ensures.symbol ∙ ap (λ e. e.symbol) c.deref_mut.ensures.value ∙ c.in_ok-entry.ensures.symbol)
+    (
+    c.set.ensures.definition
+    ∙ (
+    λ i. record {
+      attributes = (attributes ∙ ap (λ a. or_stored (shared_as old.shared c.args.symbol) (attributes_in a) x.attributes) c.none.ensures) i;
+      own = c.args.value;
+      downs = c.new.ensures i;
+      ups = c.new-2.ensures i;
+    }
+    )
+    )
+    ∙ sym (written_new (names_in c.args.names.now) old c.args.symbol new)
+
+pub store-requires-clause-absent : goal.store-requires-clause-absent
+store-requires-clause-absent c =
+    absent_after c.args.self.now c.take_or_first.new.self c.args.symbol c.set.new.self.symbol c.in_ok-entry.ensures.rest
+    (c.set.ensures.symbol ∙ ap (λ e. e.symbol) c.deref_mut.ensures.value ∙ c.in_ok-entry.ensures.symbol)

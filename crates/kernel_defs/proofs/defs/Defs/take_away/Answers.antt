@@ -1,0 +1,10 @@
+use Rattle.std.proofs.Common.{◌∙◌, sym}
+use Rattle.builtin_names.specs.Named.{names_in}
+use Rattle.kernel_defs.proofs.Written.{without_absent, without_left_absent}
+use Rattle.kernel_defs.proofs.defs.Defs.take_away.Goals as goal
+
+pub returns-in_default : goal.returns-in_default
+returns-in_default c =
+    c.take.ensures.rest
+    ∙ without_absent c.args.self.now c.args.symbol (sym c.in_default.ensures.definition)
+    ∙ sym (without_left_absent (names_in c.args.names.now) c.args.self.now c.args.symbol c.args.left.now (sym c.in_default.ensures.definition))

@@ -1,0 +1,69 @@
+//! What symbols have at the start.
+ghost use Rattle.std.specs.Prelude.{◌≡◌, is_none};
+ghost use Rattle.semantics.specs.Definitions as d;
+ghost use Rattle.builtin_names.specs.Attributes.{attributes_in};
+ghost use Rattle.builtin_names.specs.Named.{HasBuiltins, names_in};
+ghost use Rattle.kernel_defs.specs.Definition.{definition_of};
+
+use crate::definition::Definition;
+use builtin_names::{first_attrs, role_of};
+use expr_tree::{Attrs, Expr, Sym};
+use name_table::Names;
+use rule_store::Rules;
+use std::alloc::Global;
+
+/// The attributes that the built-in table gives a symbol.
+pub(crate) fn attrs_at_first(names: &Names, symbol: Sym) -> Attrs
+    requires { HasBuiltins names.now }
+    ensures { attributes_in result ≡ (d.first_definition (names_in names.now) symbol).attributes }
+{
+    match role_of(names, symbol) {
+        None => Attrs::none(),
+        Some(row) => first_attrs(row),
+    }
+}
+
+/// What a symbol has at the start.
+pub(crate) fn definition_at_first(alloc: Global, names: &Names, symbol: Sym) -> Definition
+    requires { HasBuiltins names.now }
+    ensures { definition_of result ≡ d.first_definition (names_in names.now) symbol }
+{
+    Definition {
+        attrs: attrs_at_first(names, symbol),
+        own: None,
+        downs: Rules::new(alloc),
+        ups: Rules::new(alloc),
+    }
+}
+
+fn are_same(a: Attrs, b: Attrs) -> bool
+    ensures { result ≡ d.same_attributes (attributes_in a) (attributes_in b) }
+{
+    a == b
+}
+
+fn has_no_rules(rules: &Rules) -> bool
+    ensures { result ≡ d.is_empty rules.now }
+{
+    match rules.as_slice() {
+        [] => true,
+        [_, ..] => false,
+    }
+}
+
+fn has_no_own(own: &Option<Expr>) -> bool
+    ensures { result ≡ is_none own.now }
+{
+    own.is_none()
+}
+
+/// Whether a definition says no more than the built-in table.
+pub(crate) fn is_first(names: &Names, symbol: Sym, definition: &Definition) -> bool
+    requires { HasBuiltins names.now }
+    ensures { result ≡ d.is_first (names_in names.now) symbol (definition_of definition.now) }
+{
+    has_no_own(&definition.own)
+        && (has_no_rules(&definition.downs)
+            && (has_no_rules(&definition.ups)
+                && are_same(definition.attrs, attrs_at_first(names, symbol))))
+}
