@@ -13,8 +13,6 @@ mod reading;
 mod refusal;
 mod saved;
 mod targets;
-#[cfg(test)]
-mod tests;
 
 pub use assign::Assigned;
 pub use definition::Definition;

@@ -4,6 +4,8 @@
 #[cfg(test)]
 mod control;
 #[cfg(test)]
+mod definitions;
+#[cfg(test)]
 mod matching;
 #[cfg(test)]
 mod rows;
