@@ -1,7 +1,7 @@
 -- A chain to which operands are added.
-use Rattle.std.proofs.Common.{◌≡◌, ℕ, ◌+◌, ◌<◌, ◌≤◌, max, ◌⊎◌, ⊎_elim, List, [], ◌∷◌, ◌++◌, Option, Some, None, refl, sym, ap, ◌∙◌, arith}
+use Rattle.std.proofs.Common.{◌≡◌, ◌<◌, ◌≤◌, ⊎_elim, List, [], ◌∷◌, ◌++◌, sym, ap, ◌∙◌, arith}
 use Rattle.std.proofs.lemmas.Bool.{cases_lt}
-use Rattle.expr_tree.specs.Tree.{Tree, Trees, normal, elements, trees, call, size, sizes, depth, depths}
+use Rattle.expr_tree.specs.Tree.{Tree, trees, call, size, sizes, depth, depths}
 use Rattle.expr_tree.proofs.Trees.{elements-trees}
 use Rattle.semantics.specs.declared.builtin.Builtin.{Builtin}
 use Rattle.semantics.specs.Names.{Names}

@@ -1,6 +1,5 @@
 -- Commas and brackets where no frame of theirs is innermost.
-use Rattle.std.proofs.Common.{◌≡◌, Bool, false, List, [], ◌∷◌, Option, None, refl}
-use Rattle.expr_tree.specs.Tree.{Tree}
+use Rattle.std.proofs.Common.{◌≡◌, false, List, [], ◌∷◌, None, refl}
 use Rattle.semantics.specs.Names.{Names}
 use Rattle.syntax.specs.Terminals as ter
 use Rattle.syntax.proofs.Reader as r

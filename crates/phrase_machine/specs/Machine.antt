@@ -1,7 +1,7 @@
 -- The machine over what is kept, with the names of a script.
 --     start_at, step_at, finished_at, run_at    its first state, a step, the phrase at the end, and steps in turn
 --     state_in, steps_to                        the state of the program's machine; that to which a step leads
-use Rattle.std.specs.Prelude.{ℕ, List, Option, Some, None}
+use Rattle.std.specs.Prelude.{List, Option, Some, None}
 use Rattle.expr_tree.specs.Tree.{Tree}
 use Rattle.semantics.specs.Names.{Names}
 use Rattle.syntax.specs.Terminals.{Terminal}

@@ -1,4 +1,4 @@
-use Rattle.std.proofs.Common.{◌≡◌, List, sym, ap, ◌∙◌}
+use Rattle.std.proofs.Common.{List, sym, ap, ◌∙◌}
 use Rattle.expr_tree.specs.Tree.{Tree, call}
 use Rattle.builtin_names.specs.Named.{names_in}
 use Rattle.reading_laws.specs.Kept.{cut}

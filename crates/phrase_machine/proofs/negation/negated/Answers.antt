@@ -1,4 +1,4 @@
-use Rattle.std.proofs.Common.{◌≡◌, Option, ap, ap₂, ◌∙◌}
+use Rattle.std.proofs.Common.{Option, ap, ap₂, ◌∙◌}
 use Rattle.expr_tree.specs.Tree.{Tree}
 use Rattle.builtin_names.specs.Named.{names_in}
 use Rattle.reading_laws.specs.Kept.{negated_one, with_kind}

@@ -1,4 +1,4 @@
-use Rattle.std.proofs.Common.{◌≡◌, List, sym, ap, ◌∙◌}
+use Rattle.std.proofs.Common.{List, sym, ap, ◌∙◌}
 use Rattle.builtin_names.specs.Named.{names_in}
 use Rattle.phrase_machine.specs.Held.{kept_in}
 use Rattle.phrase_machine.specs.States.{frames_in}
