@@ -1,7 +1,7 @@
 //! Phrases behind a minus sign.
-ghost use Rattle.std.specs.Prelude.{◌≡◌, ◌∷◌, [], IfOk, Some};
+ghost use Rattle.std.specs.Prelude.{◌≡◌, IfOk};
 ghost use Rattle.semantics.specs.Names as n;
-ghost use Rattle.syntax.specs.Phrases.{minus_one, negative, negated_elements, negated_product, negated_number, negated_by, negated_kind};
+ghost use Rattle.syntax.specs.Phrases.{negative, negated_elements, negated_product, negated_number, negated_by, negated_kind};
 ghost use Rattle.builtin_names.specs.Named.{HasBuiltins, names_in};
 ghost use Rattle.reading_laws.specs.Kept.{cut, negated_one, kept_negated};
 ghost use Rattle.phrase_machine.specs.Held.{kept_in, natural_negated, first_negated};
