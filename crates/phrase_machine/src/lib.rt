@@ -1,0 +1,28 @@
+//! The machine that reads the terminals of a cell to a phrase. It goes over them once, from left to right, keeps what stands open on a
+//! stack, and closes what binds tighter than the operator that follows.
+#![tactic(auto)]
+
+mod attach;
+mod begin;
+mod chain;
+mod close;
+mod constructs;
+mod elements;
+mod finish;
+mod follow;
+mod frame;
+mod kept;
+mod machine;
+mod negation;
+mod next;
+mod operator;
+mod reduce;
+mod stack;
+mod start;
+mod terminal;
+#[cfg(test)]
+mod tests;
+
+pub use kept::Kept;
+pub use machine::{Machine, Step};
+pub use terminal::{Phrase, PhraseKind, Terminal, Word};
