@@ -1,0 +1,10 @@
+pub mod Runs
+pub mod Escapes
+pub mod DigitSteps
+pub mod BlankParts
+pub mod KeptNames
+pub mod SignSteps
+pub mod Quotes
+pub mod WordSteps
+pub mod KeptReadings
+pub mod Over
