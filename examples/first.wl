@@ -1,3 +1,5 @@
-Set[x, 3]
+x = 3
 
-Plus[x, 4]
+x + 4
+
+HoldComplete[# + 1 & /@ a]

@@ -1,28 +1,31 @@
 -- A script has at most one transcript.
-use Rattle.std.proofs.Common.{◌≡◌, ℕ, ◌+◌, List, [], ◌∷◌, refl, ap, sym, ◌∙◌, subst}
-use Rattle.expr_tree.specs.Tree.{Tree}
+use Rattle.std.proofs.Common.{◌≡◌, ℕ, ◌+◌, List, [], ◌∷◌, refl, ap, subst}
 use Rattle.script_text.specs.Spelling.{Spelling}
-use Rattle.first_language.specs.Terms.{Own, after, value_of_cell}
-use Rattle.first_language.specs.Transcript.{IsBuilt, PrintsCell, built, unbuilt, Prints, none, next, out_line}
-use Rattle.first_language.specs.Laws.{ReadsOnce}
+use Rattle.semantics.specs.Names.{Names}
+use Rattle.syntax.specs.Leaves.{lexemes}
+use Rattle.syntax.specs.Lines.{syntax_line}
+use Rattle.syntax.proofs.Read.{one_reading, one_offset}
+use Rattle.first_language.specs.Terms.{Own}
+use Rattle.first_language.specs.Transcript.{PrintsCell, read, unread, Prints, none, next, ran, line_of}
 
--- two lines of one cell, and the values after them
-cell_once : (spelling : Spelling) → ReadsOnce spelling → (own : Own) (n : ℕ) (text : List ℕ) {line other : List ℕ} {later last : Own}
-    → PrintsCell spelling own n text line later → PrintsCell spelling own n text other last → (line ≡ other) × (later ≡ last)
-cell_once spelling once own n text (built e b) (built f c) =
-    let same : e ≡ f = once e f text b.form c.form in
-    (ap (λ x. out_line n (value_of_cell spelling own x)) same, ap (after spelling own) same)
-cell_once spelling once own n text (built e b) (unbuilt no_cell) = absurd (no_cell e b)
-cell_once spelling once own n text (unbuilt no_cell) (built f c) = absurd (no_cell f c)
-cell_once spelling once own n text (unbuilt p) (unbuilt q) = (refl, refl)
+module _ (spelling : Spelling) (names : Names) (find : List ℕ → ℕ) where
+  -- two lines of one cell, and the own values after them
+  cell_once : (own : Own) (n : ℕ) (cell : List ℕ) {line other : List ℕ} {later last : Own}
+      → PrintsCell spelling names find own n cell line later → PrintsCell spelling names find own n cell other last → (line ≡ other) × (later ≡ last)
+  cell_once own n cell (read e p) (read f q) =
+      let same : e ≡ f = one_reading names find cell e f p q in
+      (ap (λ x. line_of spelling names find n (ran spelling names find own (lexemes cell) x).value) same, ap (λ x. (ran spelling names find own (lexemes cell) x).own) same)
+  cell_once own n cell (read e p) (unread place q) = absurd (q.unread e p)
+  cell_once own n cell (unread place p) (read f q) = absurd (p.unread f q)
+  cell_once own n cell (unread place p) (unread other q) = (ap (syntax_line n) (one_offset names find cell place other p q), refl)
 
-pub transcript_once : (spelling : Spelling) → ReadsOnce spelling → (own : Own) (n : ℕ) (texts lines others : List (List ℕ))
-    → Prints spelling own n texts lines → Prints spelling own n texts others → lines ≡ others
-transcript_once spelling once own n [] [] [] none none = refl
-transcript_once spelling once own n [] [] (other ∷ others) p q = elim q [ ]
-transcript_once spelling once own n [] (line ∷ lines) others p q = elim p [ ]
-transcript_once spelling once own n (text ∷ texts) [] others p q = elim p [ ]
-transcript_once spelling once own n (text ∷ texts) (line ∷ lines) [] p q = elim q [ ]
-transcript_once spelling once own n (text ∷ texts) (line ∷ lines) (other ∷ others) (next {later = later} p ps) (next {later = last} q qs) =
-    let both = cell_once spelling once own n text p q in
-    (λ i. both.0 i ∷ transcript_once spelling once last (n + 1) texts lines others (subst (λ o. Prints spelling o (n + 1) texts lines) both.1 ps) qs i)
+  pub transcript_once : (own : Own) (n : ℕ) (cells lines others : List (List ℕ))
+      → Prints spelling names find own n cells lines → Prints spelling names find own n cells others → lines ≡ others
+  transcript_once own n [] [] [] none none = refl
+  transcript_once own n [] [] (other ∷ others) p q = elim q [ ]
+  transcript_once own n [] (line ∷ lines) others p q = elim p [ ]
+  transcript_once own n (cell ∷ cells) [] others p q = elim p [ ]
+  transcript_once own n (cell ∷ cells) (line ∷ lines) [] p q = elim q [ ]
+  transcript_once own n (cell ∷ cells) (line ∷ lines) (other ∷ others) (next {later = later} p ps) (next {later = last} q qs) =
+      let both = cell_once own n cell p q in
+      (λ i. both.0 i ∷ transcript_once last (n + 1) cells lines others (subst (λ o. Prints spelling names find o (n + 1) cells lines) both.1 ps) qs i)

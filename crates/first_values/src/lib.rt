@@ -1,6 +1,8 @@
-//! The values of the first language's expressions.
+//! The values of the first language's cells.
 #![tactic(auto)]
 
+mod cells;
+mod evaluation;
 mod own_values;
 mod sum;
 mod terms;
@@ -8,6 +10,6 @@ mod terms;
 mod tests;
 mod values;
 
+pub use cells::is_evaluated;
+pub use evaluation::evaluate;
 pub use own_values::OwnValues;
-pub use terms::{Assigned, assignment, is_cell, is_known};
-pub use values::value;

@@ -1,13 +1,16 @@
-//! Which expressions are of the first language.
-ghost use Rattle.std.specs.Prelude.{◌≡◌, None, Some, MatchOption, codes, ◌||◌, List, ℕ};
+//! Which expressions are terms.
+ghost use Rattle.std.specs.Prelude.{◌≡◌, ◌||◌};
 ghost use Rattle.expr_tree.specs.Tree.{trees};
 ghost use Rattle.script_text.specs.Bytes.{all, is_digit};
 ghost use Rattle.script_text.specs.Spelling.{by_texts};
-ghost use Rattle.first_language.specs.Terms.{is_lower, is_small_text, is_small_name, is_word, is_term, are_terms, is_cell, assigned, is_known, are_known};
+ghost use Rattle.builtin_names.specs.Named.{HasBuiltins, names_in};
+ghost use Rattle.first_language.specs.Terms.{is_lower, is_small_text, is_small_name, is_term, are_terms, is_known, are_known};
 
 use crate::own_values::OwnValues;
+use builtin_names::is_name;
 use expr_tree::{Expr, Node, Sym};
 use name_table::Names;
+use semantics::Builtin;
 
 /// The text of a base, and the empty text where there is none.
 #[tactic(auto, using(std::proofs::lemmas::List::get_or_past))]
@@ -48,34 +51,24 @@ fn is_small_text(text: &str) -> bool
     }
 }
 
-fn is_small_name(names: &Names, name: Sym) -> bool
+pub(crate) fn is_small_name(names: &Names, name: Sym) -> bool
     ensures { result ≡ is_small_name (by_texts names.now.texts) name }
 {
     name.number == 0 && is_small_text(base_text(names, name.base))
 }
 
-/// Whether an expression is the plain symbol of a text.
-#[tactic(auto, using(expr_tree::proofs::Callers::tree_steps))]
-fn is_word(names: &Names, word: &str, e: &Expr) -> bool
-    ensures { result ≡ is_word (by_texts names.now.texts) word.now e.now }
-{
-    match e.node() {
-        Node::Symbol(symbol) => symbol.number == 0 && base_text(names, symbol.base) == word,
-        _ => false,
-    }
-}
-
 #[cycle(term)]
 #[tactic(auto, using(expr_tree::proofs::Callers::tree_steps))]
-fn is_term(names: &Names, e: &Expr) -> bool
-    ensures { result ≡ is_term (by_texts names.now.texts) e.now }
+pub(crate) fn is_term(names: &Names, e: &Expr) -> bool
+    requires names { HasBuiltins names.now }
+    ensures { result ≡ is_term (by_texts names.now.texts) (names_in names.now) e.now }
 {
     match e.node() {
         Node::Int(_) => true,
         Node::Str(_) => false,
         Node::Symbol(name) => is_small_name(names, *name),
         Node::Normal(head, items) => {
-            is_word(names, "Plus", head) && are_terms(names, items.as_slice())
+            is_name(names, Builtin::Plus, head) && are_terms(names, items.as_slice())
         }
     }
 }
@@ -83,7 +76,8 @@ fn is_term(names: &Names, e: &Expr) -> bool
 #[cycle(term)]
 #[tactic(auto, using(expr_tree::proofs::Callers::tree_steps))]
 fn are_terms(names: &Names, items: &[Expr]) -> bool
-    ensures { result ≡ are_terms (by_texts names.now.texts) (trees items.now) }
+    requires names { HasBuiltins names.now }
+    ensures { result ≡ are_terms (by_texts names.now.texts) (names_in names.now) (trees items.now) }
 {
     for item in items {
         if !is_term(names, item) {
@@ -93,49 +87,10 @@ fn are_terms(names: &Names, items: &[Expr]) -> bool
     true
 }
 
-/// A name and the term whose value it gets.
-#[derive(Clone, Copy)]
-pub struct Assigned<'a> {
-    pub name: Sym,
-    pub term: &'a Expr,
-}
-
-/// The assignment that a cell is.
-#[tactic(auto, using(crate::proofs::Assignments::assignment_steps))]
-pub fn assignment<'a>(names: &Names, e: &'a Expr) -> Option<Assigned<'a>>
-    ensures { MatchOption result (assigned (by_texts names.now.texts) e.now ≡ None)
-        (λ a. assigned (by_texts names.now.texts) e.now ≡ Some (a.name, a.term.now)) }
-{
-    let Node::Normal(head, items) = e.node() else {
-        return None;
-    };
-    let [target, term] = items.as_slice() else {
-        return None;
-    };
-    let Node::Symbol(name) = target.node() else {
-        return None;
-    };
-    if is_word(names, "Set", head) && is_small_name(names, *name) {
-        Some(Assigned { name: *name, term })
-    } else {
-        None
-    }
-}
-
-/// Whether a cell is of the language.
-pub fn is_cell(names: &Names, e: &Expr) -> bool
-    ensures { result ≡ is_cell (by_texts names.now.texts) e.now }
-{
-    match assignment(names, e) {
-        Some(found) => is_term(names, found.term),
-        None => is_term(names, e),
-    }
-}
-
 /// Whether all names of a term have a value.
 #[cycle(known)]
 #[tactic(auto, using(expr_tree::proofs::Callers::tree_steps))]
-pub fn is_known(own: &OwnValues, e: &Expr) -> bool
+pub(crate) fn is_known(own: &OwnValues, e: &Expr) -> bool
     ensures { result ≡ is_known own.now e.now }
 {
     match e.node() {

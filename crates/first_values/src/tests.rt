@@ -1,4 +1,5 @@
-use crate::{OwnValues, value};
+use crate::OwnValues;
+use crate::values::value;
 use expr_tree::{Expr, Sym};
 use item_list::Items;
 use std::alloc::Global;

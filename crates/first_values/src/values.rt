@@ -11,7 +11,7 @@ use expr_tree::{Expr, Node};
 /// The value of a term. There is none where a whole sum in it is out of 128 bits, or a name in it has none.
 #[cycle(value)]
 #[tactic(auto, using(expr_tree::proofs::Callers::tree_steps))]
-pub fn value(own: &OwnValues, e: &Expr) -> Option<i128>
+pub(crate) fn value(own: &OwnValues, e: &Expr) -> Option<i128>
     ensures { result ≡ value own.now e.now }
 {
     match e.node() {

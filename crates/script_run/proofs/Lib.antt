@@ -1,6 +1,8 @@
-pub mod CellLemmas
+pub mod TextLemmas
+pub mod NameLemmas
+pub mod KeptLemmas
+pub mod LineLemmas
+pub mod TranscriptLemmas
 pub mod WordLemmas
 pub mod WritingLemmas
 pub mod RunLemmas
-pub mod NameLemmas
-pub mod TranscriptLemmas

@@ -1,60 +1,61 @@
--- The names of a text are kept in the table of a script's names, and expressions that are read have only names of the table.
-use Rattle.std.proofs.Common.{◌≡◌, refl, sym, ap, ◌∙◌, ℕ, suc, ◌+◌, ◌≤◌, Bool, true, false, true≢false, cond, List, [], ◌∷◌, ◌++◌, length, map, reverse, drop, take, arith}
-use Rattle.std.specs.Prelude.{◌&&◌, ◌||◌, ◌==◌}
-use Rattle.std.specs.List.{list_any, filter}
+-- The names of a script: how many there are, and that its table keeps those of each cell.
+use Rattle.std.proofs.Common.{◌≡◌, refl, sym, ap, ◌∙◌, ℕ, ◌+◌, ◌-◌, ◌<◌, ◌≤◌, ◌^◌, Bool, true, false, List, [], ◌∷◌, ◌++◌, length, map, drop, take, arith}
+use Rattle.std.specs.Prelude.{◌||◌, ◌==◌}
+use Rattle.std.specs.List.{list_any}
 use Rattle.std.specs.Str.{bytes_eq}
-use Rattle.std.proofs.lemmas.List.{append-nil, length-reverse, get_or_past}
-use Rattle.expr_tree.specs.Tree.{Tree, Trees, integer, string, symbol, normal, nil, cons}
-use Rattle.script_text.specs.Bytes.{is_digit, run, in_name, is_name, number_after}
-use Rattle.script_text.specs.Cells.{in_first}
-use Rattle.script_text.specs.FullNames.{outside, words, names_in}
-use Rattle.script_text.specs.FullForm.{IsSpelled, IsWritten, AreWritten, IsFullFormOf}
-use Rattle.script_text.specs.Laws.{AreDistinct, IsKept, AreKept}
-use Rattle.script_text.specs.Spelling.{Spelled, spelled, numbered, plain, is_number_part, symbol_text, by_texts, bases}
-use Rattle.script_text.proofs.Unique.{one_expression}
+use Rattle.std.proofs.lemmas.List.{length-append, length-drop, length-take}
+use Rattle.script_text.specs.Bytes.{run, in_name}
+use Rattle.script_text.specs.Cells.{cells}
+use Rattle.script_text.specs.Spelling.{bases}
 use Rattle.name_table.proofs.Sorted.{has-kept}
 use Rattle.name_table.proofs.Adding.{base_of, has_both, places_within}
-use Rattle.first_language.specs.Transcript.{is_ascii, known_names, written_names, names_of}
-use Rattle.show_form.specs.Faults.{AreKeptNames}
+use Rattle.semantics.specs.Builtin.{rows}
+use Rattle.semantics.specs.Texts.{row_text}
+use Rattle.syntax.specs.Tokens.{Kind, Token, lex, token_text, nonempty, blank_names, token_names, names_in}
+use Rattle.lex_form.specs.Shapes.{AreTokens}
+use Rattle.lex_form.proofs.TokenShapes.{tokens_good}
+use Rattle.read_form.specs.Kept.{AreKeptNames}
+use Rattle.first_language.specs.Transcript.{written_names, texts_of}
+use Rattle.script_run.proofs.TextLemmas.{total, cells_total}
 
--- ---- an expression that is written has only bases of the table
+-- ---- a cell has no more names than bytes
 
-abbrev numbered_by : Bool → List ℕ → List ℕ → List ℕ → Spelled
-numbered_by k t base ds = elim k [ true ↦ record { base = base; number = number_after 0 ds } | false ↦ plain t ]
+nonempty_few : (t : List ℕ) → length (nonempty t) ≤ length t
+nonempty_few [] = omega arith
+nonempty_few (c ∷ cs) = omega arith
 
-empty_base : (t ds rest : List ℕ) → (numbered t ds rest).base ≡ [] → t ≡ []
-empty_base t ds [] e = e
-empty_base t ds (c ∷ []) e = e
-empty_base t ds (c ∷ b ∷ bs) e = go ((c == 36) && is_number_part ds) e
-  where
-    go : (k : Bool) → (numbered_by k t (reverse (b ∷ bs)) ds).base ≡ [] → t ≡ []
-    go true e = let long : length (reverse (b ∷ bs)) ≡ length (b ∷ bs) = length-reverse (b ∷ bs) in absurd (omega (arith, ap length e, long))
-    go false e = e
+blank_few : (t : List ℕ) → length (blank_names t) ≤ length t
+blank_few t =
+    let n = run in_name t in
+    let rest = drop n t in
+    let m = run (λ c. c == 95) rest in
+    omega (arith, length-append (nonempty (take n t)) (nonempty (drop m rest)), nonempty_few (take n t), nonempty_few (drop m rest), length-take n t, length-drop n t, length-drop m rest)
 
-spelled_empty : (t : List ℕ) → (spelled t).base ≡ [] → t ≡ []
-spelled_empty t e = empty_base t (reverse (take (run is_digit (reverse t)) (reverse t))) (drop (run is_digit (reverse t)) (reverse t)) e
+token_few : (kind : Kind) (t : List ℕ) → 0 < length t → length (token_names kind t) ≤ length t
+token_few Kind.Number t some = omega arith
+token_few Kind.Name t some = omega (arith, some)
+token_few Kind.Blank t some = blank_few t
+token_few Kind.Str t some = omega arith
+token_few Kind.Slot t some = omega arith
+token_few Kind.Operator t some = omega arith
 
-symbol_kept : (texts : List (List ℕ)) (base number : ℕ) → IsSpelled (by_texts texts) (record { base = base; number = number }) → length texts ≤ base → ⊥
-symbol_kept texts base number s past =
-    let none : by_texts texts base ≡ [] = get_or_past texts base [] past in
-    let text = symbol_text (by_texts texts) (record { base = base; number = number }) in
-    let empty : text ≡ [] = spelled_empty text (ap (λ r. r.base) s.read_back ∙ none) in
-    true≢false (sym s.is_name ∙ ap is_name empty)
+names_few : (text : List ℕ) (at : ℕ) (ts : List Token) → at ≤ length text → AreTokens text at ts → length (names_in text ts) + at ≤ length text
+names_few text at [] within p = omega (arith, within)
+names_few text at (t ∷ ts) within p =
+    let later = names_few text t.to ts p.0.within p.1 in
+    let long : length (token_text text t) ≡ t.to - t.from = omega (arith, length-take (t.to - t.from) (drop t.from text), length-drop t.from text, p.0.within, p.0.some) in
+    let few = token_few t.kind (token_text text t) (omega (arith, long, p.0.some)) in
+    omega (arith, later, long, few, p.0.after, p.0.some, length-append (token_names t.kind (token_text text t)) (names_in text ts))
 
-mutual
-  pub written_kept : (texts : List (List ℕ)) (e : Tree) → IsWritten (by_texts texts) e → IsKept (length texts) e
-  written_kept texts (integer n) w = tt
-  written_kept texts (string t) w = tt
-  written_kept texts (symbol s) w = omega (arith, symbol_kept texts s.base s.number w)
-  written_kept texts (normal h es) w = (written_kept texts h w.0, each_kept texts es w.1)
+cell_few : (cell : List ℕ) → length (names_in cell (lex cell).tokens) ≤ length cell
+cell_few cell = omega (arith, names_few cell 0 (lex cell).tokens (omega arith) (tokens_good cell))
 
-  each_kept : (texts : List (List ℕ)) (es : Trees) → AreWritten (by_texts texts) es → AreKept (length texts) es
-  each_kept texts nil w = tt
-  each_kept texts (cons e es) w = (written_kept texts e w.0, each_kept texts es w.1)
+written_few : (texts : List (List ℕ)) → length (written_names texts) ≤ total texts
+written_few [] = omega arith
+written_few (cell ∷ texts) = omega (arith, cell_few cell, written_few texts, length-append (names_in cell (lex cell).tokens) (written_names texts))
 
--- a text is the full form of one expression at most, by the bases of a table
-pub one_reading : (texts : List (List ℕ)) → AreDistinct texts → (e f : Tree) (t : List ℕ) → IsFullFormOf (by_texts texts) e t → IsFullFormOf (by_texts texts) f t → e ≡ f
-one_reading texts distinct e f t p q = one_expression texts distinct e f (written_kept texts e p.written) (written_kept texts f q.written) t p q
+pub names_fit : (script : List ℕ) → length script ≤ 1048576 → length (written_names (cells script)) < 2 ^ 31
+names_fit script short = omega (arith, short, written_few (cells script), cells_total script)
 
 -- ---- the table has the names of each cell
 
@@ -72,97 +73,31 @@ or_false false = refl
 abbrev has_base : List ℕ → List (List ℕ) → Bool
 has_base t names = list_any (bytes_eq t) (map base_of names)
 
-pub names_kept : (all names : List (List ℕ)) → ((t : List ℕ) → list_any (bytes_eq t) (map base_of names) ≡ true → list_any (bytes_eq t) (map base_of all) ≡ true)
-    → AreKeptNames (bases all) names
+-- each base of some names is a base of others
+abbrev Has : List (List ℕ) → List (List ℕ) → Type 0
+Has all names = (t : List ℕ) → has_base t names ≡ true → has_base t all ≡ true
+
+names_kept : (all names : List (List ℕ)) → Has all names → AreKeptNames (bases all) names
 names_kept all [] within = tt
 names_kept all (name ∷ names) within = (
-  places_within (bases all) (name ∷ []) (λ t h. has-kept t (map base_of all) ∙ within t (or_left (bytes_eq t (base_of name)) (list_any (bytes_eq t) (map base_of names)) (sym (or_false (bytes_eq t (base_of name))) ∙ h))) 0 (omega arith),
-  names_kept all names (λ t h. within t (or_right (bytes_eq t (base_of name)) (list_any (bytes_eq t) (map base_of names)) h)),
+  places_within (bases all) (name ∷ []) (λ t h. has-kept t (map base_of all) ∙ within t (or_left (bytes_eq t (base_of name)) (has_base t names) (sym (or_false (bytes_eq t (base_of name))) ∙ h))) 0 (omega arith),
+  names_kept all names (λ t h. within t (or_right (bytes_eq t (base_of name)) (has_base t names) h)),
 )
 
--- the table has the names of the cells that are ASCII
+-- the table has the names of the cells
 abbrev pub AreKeptCells : List (List ℕ) → List (List ℕ) → Type 0
 AreKeptCells texts [] = Unit {0}
-AreKeptCells texts (cell ∷ cells) = (is_ascii cell ≡ true → AreKeptNames texts (names_in cell)) × AreKeptCells texts cells
+AreKeptCells texts (cell ∷ cells) = AreKeptNames texts (names_in cell (lex cell).tokens) × AreKeptCells texts cells
 
-abbrev with_names : Bool → List ℕ → List (List ℕ) → List (List ℕ)
-with_names b cell cells = elim b [ true ↦ names_in cell ++ written_names cells | false ↦ written_names cells ]
-
-cells_kept : (all cells : List (List ℕ)) → ((t : List ℕ) → list_any (bytes_eq t) (map base_of (written_names cells)) ≡ true → list_any (bytes_eq t) (map base_of all) ≡ true)
-    → AreKeptCells (bases all) cells
+cells_kept : (all texts : List (List ℕ)) → Has all (written_names texts) → AreKeptCells (bases all) texts
 cells_kept all [] within = tt
-cells_kept all (cell ∷ cells) within = go (is_ascii cell) (cells_kept all cells) within
-  where
-    go : (b : Bool)
-        → (((t : List ℕ) → list_any (bytes_eq t) (map base_of (written_names cells)) ≡ true → list_any (bytes_eq t) (map base_of all) ≡ true) → AreKeptCells (bases all) cells)
-        → ((t : List ℕ) → list_any (bytes_eq t) (map base_of (with_names b cell cells)) ≡ true → list_any (bytes_eq t) (map base_of all) ≡ true)
-        → (b ≡ true → AreKeptNames (bases all) (names_in cell)) × AreKeptCells (bases all) cells
-    go true others within = (
-      λ _. names_kept all (names_in cell) (λ t h. within t (has_both t (names_in cell) (written_names cells) ∙ or_left (has_base t (names_in cell)) (has_base t (written_names cells)) h)),
-      others (λ t h. within t (has_both t (names_in cell) (written_names cells) ∙ or_right (has_base t (names_in cell)) (has_base t (written_names cells)) h)),
+cells_kept all (cell ∷ texts) within =
+    let names = names_in cell (lex cell).tokens in (
+      names_kept all names (λ t h. within t (has_both t names (written_names texts) ∙ or_left (has_base t names) (has_base t (written_names texts)) h)),
+      cells_kept all texts (λ t h. within t (has_both t names (written_names texts) ∙ or_right (has_base t names) (has_base t (written_names texts)) h)),
     )
-    go false others within = (λ e. absurd (true≢false (sym e)), others within)
 
-pub script_kept : (cells : List (List ℕ)) → AreKeptCells (names_of cells) cells
-script_kept cells =
-    cells_kept (known_names ++ written_names cells) cells (λ t h. has_both t known_names (written_names cells) ∙ or_right (has_base t known_names) (has_base t (written_names cells)) h)
-
--- ---- a text has no more names than bytes
-
-abbrev pub count : List (List ℕ) → ℕ
-count ws = length (filter is_name ws)
-
-outside_length : (quoted escaped : Bool) (t : List ℕ) → length (outside quoted escaped t) ≡ length t
-outside_length quoted escaped [] = refl
-outside_length false escaped (c ∷ cs) = ap suc (outside_length (c == 34) false cs)
-outside_length true true (c ∷ cs) = ap suc (outside_length true false cs)
-outside_length true false (c ∷ cs) = ap suc (outside_length _ (c == 92) cs)
-
-first_count : (c : ℕ) (ws : List (List ℕ)) → count (in_first c ws) ≤ 1 + count ws
-first_count c [] = go (is_name (c ∷ []))
-  where
-    go : (b : Bool) → length (cond b ((c ∷ []) ∷ []) []) ≤ 1 + 0
-    go true = omega arith
-    go false = omega arith
-first_count c (w ∷ ws) = go (is_name (c ∷ w)) (is_name w)
-  where
-    go : (a b : Bool) → length (cond a ((c ∷ w) ∷ filter is_name ws) (filter is_name ws)) ≤ 1 + length (cond b (w ∷ filter is_name ws) (filter is_name ws))
-    go true true = omega arith
-    go true false = omega arith
-    go false true = omega arith
-    go false false = omega arith
-
-words_count : (t : List ℕ) → count (words t) ≤ length t
-words_count [] = omega arith
-words_count (c ∷ cs) = go (in_name c) (words_count cs)
-  where
-    go : (b : Bool) → count (words cs) ≤ length cs → count (elim b [ true ↦ in_first c (words cs) | false ↦ [] ∷ words cs ]) ≤ length (c ∷ cs)
-    go true h = omega (arith, h, first_count c (words cs))
-    go false h = omega (arith, h)
-
-pub names_few : (t : List ℕ) → length (names_in t) ≤ length t
-names_few t = omega (arith, words_count (outside false false t), outside_length false false t)
-
--- ---- the names of one cell more
-
-pub written_more : (cell : List ℕ) (cells : List (List ℕ)) → written_names (cell ∷ cells) ≡ written_names (cell ∷ []) ++ written_names cells
-written_more cell cells = go (is_ascii cell)
-  where
-    go : (b : Bool) → with_names b cell cells ≡ with_names b cell [] ++ written_names cells
-    go true = ap (λ ns. ns ++ written_names cells) (sym (append-nil (names_in cell)))
-    go false = refl
-
-pub written_one : (cell text : List ℕ) → text ≡ cell → is_ascii cell ≡ true → written_names (cell ∷ []) ≡ names_in text
-written_one cell text same ascii = ap (λ b. with_names b cell []) ascii ∙ append-nil (names_in cell) ∙ ap names_in (sym same)
-
-pub written_none : (cell : List ℕ) → is_ascii cell ≡ false → written_names (cell ∷ []) ≡ []
-written_none cell other = ap (λ b. with_names b cell []) other
-
-pub written_few : (cell : List ℕ) → length (written_names (cell ∷ [])) ≤ length cell
-written_few cell = go (is_ascii cell)
-  where
-    go : (b : Bool) → length (with_names b cell []) ≤ length cell
-    go true = let few = names_few cell in let whole : length (names_in cell ++ []) ≡ length (names_in cell) = ap length (append-nil (names_in cell)) in omega (arith, few, whole)
-    go false = omega arith
-
-pub ruleset name_steps = (written_one, written_none)
+pub script_kept : (texts : List (List ℕ)) → AreKeptCells (texts_of texts) texts
+script_kept texts =
+    let known = map row_text rows in
+    cells_kept (known ++ written_names texts) texts (λ t h. has_both t known (written_names texts) ∙ or_right (has_base t known) (has_base t (written_names texts)) h)

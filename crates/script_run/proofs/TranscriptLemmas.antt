@@ -1,143 +1,188 @@
--- The lines so far, and what is read of a cell
-use Rattle.std.proofs.Common.{◌≡◌, refl, sym, ap, ◌∙◌, subst, ℕ, ◌+◌, ◌<◌, Bool, true, false, true≢false, List, [], ◌∷◌, ◌++◌, append_assoc, arith}
-use Rattle.std.specs.Prelude.{◌&&◌, leb, ltb, ℤ, Option, Some, None, Result, Ok, Err, IfOk, IfErr, MatchOption}
-use Rattle.std.specs.Str.{IsAscii, IsUtf8}
-use Rattle.std.proofs.lemmas.Str.{IsUtf8-from_ascii}
-use Rattle.std.proofs.lemmas.Str.Ascii.{IsAscii-nil, IsAscii-cons}
-use Rattle.std.proofs.lemmas.Bool.{leb-true, ltb-true, le-leb}
+-- The lines so far, and the line of a cell.
+use Rattle.std.proofs.Common.{◌≡◌, ◌↔◌, not, map, IsTrue, refl, sym, ap, ◌∙◌, subst, ℕ, ◌+◌, ◌<◌, ◌≤◌, Bool, true, false, true≢false, List, [], ◌∷◌, ◌++◌, length, drop, get_or, append_assoc, arith}
+use Rattle.std.specs.Prelude.{leb, Option, Some, None, Result, Ok, Err, IfOk, IfErr}
+use Rattle.std.proofs.lemmas.Bool.{le-leb, leb-true}
 use Rattle.std.proofs.lemmas.List.{append-nil}
-use Rattle.expr_tree.specs.Tree.{Tree, size, depth}
+use Rattle.expr_tree.specs.Tree.{Tree, depth}
 use Rattle.script_text.specs.Bytes.{all_joined}
 use Rattle.script_text.specs.Cells.{cells}
-use Rattle.script_text.specs.FullForm.{IsFullForm, IsFullFormOf}
-use Rattle.script_text.specs.Laws.{AreDistinct}
-use Rattle.script_text.specs.Spelling.{Spelling, by_texts}
-use Rattle.first_language.specs.Terms.{Own, is_cell, is_known, term_of, value_of_cell, after}
-use Rattle.first_language.specs.Transcript.{is_ascii, IsBuilt, PrintsCell, built, unbuilt, Prints, none, next, names_of, out_line, unbuilt_line}
-use Rattle.show_form.specs.Faults.{IsFault}
-use Rattle.show_form.specs.declared.fault.FullFault.{FullFault}
-use Rattle.script_run.specs.Promise.{LinesOf, IsTranscript, Begins}
-use Rattle.script_run.proofs.NameLemmas.{one_reading}
+use Rattle.script_text.specs.Spelling.{Spelling, by_texts, place_in}
+use Rattle.name_table.specs.Table.{NameTable}
+use Rattle.semantics.specs.declared.builtin.Builtin.{Builtin}
+use Rattle.semantics.specs.Names.{Names, name}
+use Rattle.semantics.specs.Texts.{names_of}
+use Rattle.builtin_names.specs.Named.{names_in}
+use Rattle.syntax.specs.Tokens.{lex}
+use Rattle.syntax.specs.Leaves.{Lexeme, lexemes, lexemes_after}
+use Rattle.lex_form.specs.declared.token.Token.{Token}
+use Rattle.lex_form.specs.declared.token.Lexed.{Lexed}
+use Rattle.lex_form.specs.Lexes.{token_of, lexed}
+use Rattle.lex_form.specs.declared.cut.Span.{Span}
+use Rattle.lex_form.specs.Spans.{span_text}
+use Rattle.syntax.specs.Lines.{out_line, syntax_line}
+use Rattle.syntax.specs.Reads.{Reads, LexemesRead, IsOffset}
+use Rattle.read_form.specs.declared.ReadNo.{ReadNo}
+use Rattle.read_form.specs.Answers.{IsNo}
+use Rattle.first_language.specs.Terms.{Own, is_evaluated, value_of_cell, after}
+use Rattle.first_language.specs.Transcript.{Ran, ran, leaves, line_of, PrintsCell, read, unread, Prints, none, next, texts_of}
+use Rattle.script_run.specs.Cells.{has_some}
+use Rattle.script_run.specs.Promise.{IsTranscript, Begins}
+use Rattle.script_run.proofs.LineLemmas.{names_are}
+use Rattle.script_run.proofs.TextLemmas.{first_span}
 
--- ---- the lines so far
+-- ---- the lines so far, by the texts of a table
 
--- the lines that the rest of a script prints, put behind these, are lines of the whole
-pub record AreSoFar (spelling : Spelling) (script rest : List ℕ) (own : Own) (n : ℕ) (lines : List (List ℕ)) : Type 0 where
-  pub texts : List (List ℕ)
-  pub front : cells script ≡ texts ++ cells rest
-  pub goes_on : (more others : List (List ℕ)) → Prints spelling own n more others → Prints spelling [] 1 (texts ++ more) (lines ++ others)
+abbrev pub LinesOf : List (List ℕ) → Own → ℕ → List (List ℕ) → List (List ℕ) → Type 0
+LinesOf texts own n some lines = Prints (by_texts texts) (names_of texts) (place_in texts) own n some lines
 
-pub none_so_far : (spelling : Spelling) (script : List ℕ) → AreSoFar spelling script script [] 1 []
-none_so_far spelling script = record { texts = []; front = refl; goes_on = λ more others p. p }
+-- the lines that the rest of the cells print, put behind these, are lines of all
+pub record AreSoFar (texts all rest : List (List ℕ)) (own : Own) (n : ℕ) (lines : List (List ℕ)) : Type 0 where
+  pub front : List (List ℕ)
+  pub split : all ≡ front ++ rest
+  pub goes_on : (more others : List (List ℕ)) → LinesOf texts own n more others → LinesOf texts [] 1 (front ++ more) (lines ++ others)
 
-pub one_more : (spelling : Spelling) (script rest after : List ℕ) (own later : Own) (n : ℕ) (lines : List (List ℕ)) (cell line : List ℕ)
-    → AreSoFar spelling script rest own n lines → cells rest ≡ cell ∷ cells after → PrintsCell spelling own n cell line later
-    → AreSoFar spelling script after later (n + 1) (lines ++ line ∷ [])
-one_more spelling script rest after own later n lines cell line so cut p = record {
-  texts = so.texts ++ cell ∷ [];
-  front = so.front ∙ ap (λ cs. so.texts ++ cs) cut ∙ sym (append_assoc so.texts (cell ∷ []) (cells after));
+pub none_so_far : (texts all : List (List ℕ)) → AreSoFar texts all all [] 1 []
+none_so_far texts all = record { front = []; split = refl; goes_on = λ more others p. p }
+
+pub one_more : (texts all : List (List ℕ)) (cell : List ℕ) (rest : List (List ℕ)) (own later : Own) (n : ℕ) (lines : List (List ℕ)) (line : List ℕ)
+    → AreSoFar texts all (cell ∷ rest) own n lines → PrintsCell (by_texts texts) (names_of texts) (place_in texts) own n cell line later
+    → AreSoFar texts all rest later (n + 1) (lines ++ line ∷ [])
+one_more texts all cell rest own later n lines line so p = record {
+  front = so.front ++ cell ∷ [];
+  split = so.split ∙ sym (append_assoc so.front (cell ∷ []) rest);
   goes_on = λ more others q.
-      subst (λ ls. Prints spelling [] 1 ((so.texts ++ cell ∷ []) ++ more) ls) (sym (append_assoc lines (line ∷ []) others))
-      (subst (λ ts. Prints spelling [] 1 ts (lines ++ line ∷ others)) (sym (append_assoc so.texts (cell ∷ []) more)) (so.goes_on (cell ∷ more) (line ∷ others) (next p q)));
+      subst (λ ls. LinesOf texts [] 1 ((so.front ++ cell ∷ []) ++ more) ls) (sym (append_assoc lines (line ∷ []) others))
+      (subst (λ ts. LinesOf texts [] 1 ts (lines ++ line ∷ others)) (sym (append_assoc so.front (cell ∷ []) more)) (so.goes_on (cell ∷ more) (line ∷ others) (next p q)));
 }
 
-pub so_far_begins : (script rest : List ℕ) (own : Own) (n : ℕ) (lines : List (List ℕ)) → AreSoFar (by_texts (names_of (cells script))) script rest own n lines → Begins script lines
-so_far_begins script rest own n lines so = (
-  so.texts,
-  cells rest,
+pub so_far_begins : (texts : List (List ℕ)) (script : List ℕ) (rest : List (List ℕ)) (own : Own) (n : ℕ) (lines : List (List ℕ)) → texts ≡ texts_of (cells script)
+    → AreSoFar texts (cells script) rest own n lines → Begins script lines
+so_far_begins texts script rest own n lines same so = (
   so.front,
-  subst (λ ls. LinesOf script so.texts ls) (append-nil lines) (subst (λ ts. LinesOf script ts (lines ++ [])) (append-nil so.texts) (so.goes_on [] [] none)),
+  rest,
+  so.split,
+  subst (λ ts. LinesOf ts [] 1 so.front lines) same
+      (subst (λ ls. LinesOf texts [] 1 so.front ls) (append-nil lines) (subst (λ cs. LinesOf texts [] 1 cs (lines ++ [])) (append-nil so.front) (so.goes_on [] [] none))),
 )
 
-pub so_far_all : (script rest : List ℕ) (own : Own) (n : ℕ) (lines : List (List ℕ)) → AreSoFar (by_texts (names_of (cells script))) script rest own n lines → cells rest ≡ []
-    → IsTranscript script lines
-so_far_all script rest own n lines so end =
-    subst (λ ls. LinesOf script (cells script) ls) (append-nil lines)
-    (subst (λ ts. LinesOf script ts (lines ++ [])) (sym (so.front ∙ ap (λ cs. so.texts ++ cs) end)) (so.goes_on [] [] none))
+pub so_far_all : (texts : List (List ℕ)) (script : List ℕ) (own : Own) (n : ℕ) (lines : List (List ℕ)) → texts ≡ texts_of (cells script)
+    → AreSoFar texts (cells script) [] own n lines → IsTranscript script lines
+so_far_all texts script own n lines same so =
+    subst (λ ts. LinesOf ts [] 1 (cells script) lines) same
+    (subst (λ ls. LinesOf texts [] 1 (cells script) ls) (append-nil lines) (subst (λ cs. LinesOf texts [] 1 cs (lines ++ [])) (sym so.split) (so.goes_on [] [] none)))
 
 pub joined_more : (lines : List (List ℕ)) (line : List ℕ) → all_joined (lines ++ line ∷ []) ≡ all_joined lines ++ line
 joined_more [] line = append-nil line
 joined_more (l ∷ lines) line = ap (λ xs. l ++ xs) (joined_more lines line) ∙ sym (append_assoc l (all_joined lines) line)
 
--- ---- what is read of a cell
-
-both_true : (a b : Bool) → (a && b) ≡ true → (a ≡ true) × (b ≡ true)
-both_true true b e = (refl, e)
-both_true false b e = absurd (true≢false (sym e))
-
-both : (a b : Bool) → a ≡ true → b ≡ true → (a && b) ≡ true
-both true b p q = q
-both false b p q = absurd (true≢false (sym p))
-
-ascii_bytes : (t : List ℕ) → is_ascii t ≡ true → IsAscii t
-ascii_bytes [] e = IsAscii-nil
-ascii_bytes (c ∷ cs) e =
-    let parts = both_true (ltb c 128) (is_ascii cs) e in
-    IsAscii-cons c cs (ltb-true c 128 parts.0) (ascii_bytes cs parts.1)
-
-pub ascii_utf8 : (t : List ℕ) → is_ascii t ≡ true → IsUtf8 t
-ascii_utf8 t e = IsUtf8-from_ascii t (ascii_bytes t e)
-
-pub not_ascii : (spelling : Spelling) (own : Own) (cell : List ℕ) → is_ascii cell ≡ false → (e : Tree) → IsBuilt spelling own cell e → ⊥
-not_ascii spelling own cell other e b = true≢false (sym b.ascii ∙ other)
-
-pub no_form : (spelling : Spelling) (own : Own) (cell : List ℕ) → (IsFullForm cell → ⊥) → (e : Tree) → IsBuilt spelling own cell e → ⊥
-no_form spelling own cell refused e b = refused (spelling, e, b.form)
-
-pub too_large : (texts : List (List ℕ)) (own : Own) (cell : List ℕ) → AreDistinct texts → (f : Tree) → IsFullFormOf (by_texts texts) f cell → 4000000 < size f
-    → (e : Tree) → IsBuilt (by_texts texts) own cell e → ⊥
-too_large texts own cell distinct f form large e b = omega (arith, large, b.small, ap size (one_reading texts distinct e f cell b.form form))
-
-pub too_deep : (texts : List (List ℕ)) (own : Own) (cell : List ℕ) → AreDistinct texts → (f : Tree) → IsFullFormOf (by_texts texts) f cell → 512 < depth f
-    → (e : Tree) → IsBuilt (by_texts texts) own cell e → ⊥
-too_deep texts own cell distinct f form deep e b = omega (arith, deep, b.shallow, ap depth (one_reading texts distinct e f cell b.form form))
-
--- whether an expression that was read is evaluated
-abbrev pub is_evaluated : Spelling → Own → Tree → Bool
-is_evaluated spelling own e = leb (size e) 4000000 && (leb (depth e) 200 && (is_cell spelling e && is_known own (term_of spelling e)))
-
-pub is_built : (spelling : Spelling) (own : Own) (cell : List ℕ) (e : Tree) → is_ascii cell ≡ true → IsFullFormOf spelling e cell
-    → is_evaluated spelling own e ≡ true → IsBuilt spelling own cell e
-is_built spelling own cell e ascii form good =
-    let small = both_true (leb (size e) 4000000) (leb (depth e) 200 && (is_cell spelling e && is_known own (term_of spelling e))) good in
-    let shallow = both_true (leb (depth e) 200) (is_cell spelling e && is_known own (term_of spelling e)) small.1 in
-    let rest = both_true (is_cell spelling e) (is_known own (term_of spelling e)) shallow.1 in
-    record { ascii = ascii; form = form; cell = rest.0; small = leb-true (size e) 4000000 small.0; shallow = leb-true (depth e) 200 shallow.0; known = rest.1 }
-
-pub not_built : (texts : List (List ℕ)) (own : Own) (cell : List ℕ) → AreDistinct texts → (f : Tree) → IsFullFormOf (by_texts texts) f cell → is_evaluated (by_texts texts) own f ≡ false
-    → (e : Tree) → IsBuilt (by_texts texts) own cell e → ⊥
-not_built texts own cell distinct f form bad e b =
-    let same : e ≡ f = one_reading texts distinct e f cell b.form form in
-    let words : (is_cell (by_texts texts) e && is_known own (term_of (by_texts texts) e)) ≡ true = both (is_cell (by_texts texts) e) (is_known own (term_of (by_texts texts) e)) b.cell b.known in
-    let levels : (leb (depth e) 200 && (is_cell (by_texts texts) e && is_known own (term_of (by_texts texts) e))) ≡ true =
-    both (leb (depth e) 200) (is_cell (by_texts texts) e && is_known own (term_of (by_texts texts) e)) (le-leb (depth e) 200 b.shallow) words in
-    let good : is_evaluated (by_texts texts) own e ≡ true =
-    both (leb (size e) 4000000) (leb (depth e) 200 && (is_cell (by_texts texts) e && is_known own (term_of (by_texts texts) e))) (le-leb (size e) 4000000 b.small) levels in
-    true≢false (sym good ∙ ap (is_evaluated (by_texts texts) own) same ∙ bad)
-
--- why a reading failed
-pub fault_is : (texts : List (List ℕ)) (t : List ℕ) (r : Result Tree FullFault) (f fault : FullFault) → IfErr r (λ x. IsFault texts t x) → r ≡ Err f → f ≡ fault → IsFault texts t fault
-fault_is texts t r f fault is at same = subst (λ x. IsFault texts t x) same (subst (λ q. IfErr q (λ x. IsFault texts t x)) at is)
-
 -- ---- the line of a cell
 
-pub prints_built : {E : Type 0} (r : Result (List ℕ) E) (spelling : Spelling) (own later : Own) (n : ℕ) (cell : List ℕ) (e : Tree) (v : Option ℤ)
-    → IsBuilt spelling own cell e → v ≡ value_of_cell spelling own e → later ≡ after spelling own e → IfOk r (λ t. t ≡ out_line n v)
-    → IfOk r (λ line. PrintsCell spelling own n cell line later)
-prints_built (Ok t) spelling own later n cell e v b value given line =
-    subst (λ o. PrintsCell spelling own n cell t o) (sym given)
-    (subst (λ l. PrintsCell spelling own n cell l (after spelling own e)) (sym (line ∙ ap (out_line n) value)) (built e b))
-prints_built (Err x) spelling own later n cell e v b value given line = tt
+pub printed : (table : NameTable) (own : Own) (n : ℕ) (cell line : List ℕ) (later : Own)
+    → PrintsCell (by_texts table.texts) (names_in table) (place_in table.texts) own n cell line later
+    → PrintsCell (by_texts table.texts) (names_of table.texts) (place_in table.texts) own n cell line later
+printed table own n cell line later p = subst (λ names. PrintsCell (by_texts table.texts) names (place_in table.texts) own n cell line later) (names_are table) p
 
-pub prints_unbuilt : {E : Type 0} (r : Result (List ℕ) E) (spelling : Spelling) (own : Own) (n : ℕ) (cell : List ℕ)
-    → ((e : Tree) → IsBuilt spelling own cell e → ⊥) → IfOk r (λ t. t ≡ unbuilt_line n) → IfOk r (λ line. PrintsCell spelling own n cell line own)
-prints_unbuilt (Ok t) spelling own n cell refused line = subst (λ l. PrintsCell spelling own n cell l own) (sym line) (unbuilt refused)
-prints_unbuilt (Err x) spelling own n cell refused line = tt
+pub next_cell : (table : NameTable) (script : List ℕ) (spans items : List Span) (at : ℕ) (d : Span) (own later : Own) (n : ℕ) (lines : List (List ℕ)) (cell line : List ℕ)
+    → items ≡ spans → at < length spans → cell ≡ span_text script (get_or items at d)
+    → AreSoFar table.texts (cells script) (map (span_text script) (drop at spans)) own n lines
+    → PrintsCell (by_texts table.texts) (names_in table) (place_in table.texts) own n cell line later
+    → AreSoFar table.texts (cells script) (map (span_text script) (drop (at + 1) spans)) later (n + 1) (lines ++ line ∷ [])
+next_cell table script spans items at d own later n lines cell line same inside is so p =
+    let first = first_span spans items at d same inside in
+    let peeled = subst (λ ss. AreSoFar table.texts (cells script) (map (span_text script) ss) own n lines) first so in
+    one_more table.texts (cells script) (span_text script (get_or items at d)) (map (span_text script) (drop (at + 1) spans)) own later n lines line peeled
+    (subst (λ t. PrintsCell (by_texts table.texts) (names_of table.texts) (place_in table.texts) own n t line later) is (printed table own n cell line later p))
 
-pub found_built : (spelling : Spelling) (own : Own) (cell : List ℕ) (r : Option Tree) (e : Tree)
-    → MatchOption r ((e : Tree) → IsBuilt spelling own cell e → ⊥) (λ e. IsBuilt spelling own cell e) → r ≡ Some e → IsBuilt spelling own cell e
-found_built spelling own cell r e is at = subst (λ q. MatchOption q ((e : Tree) → IsBuilt spelling own cell e → ⊥) (λ e. IsBuilt spelling own cell e)) at is
+module _ (spelling : Spelling) (names : Names) (find : List ℕ → ℕ) where
+  abbrev by_depth : Bool → Own → Tree → Ran
+  by_depth d own e =
+      elim d [
+        | false ↦ leaves (Some (name names Builtin.Aborted)) own
+        | true ↦
+            elim (is_evaluated spelling names own e) [
+              | true ↦ leaves (Some (value_of_cell spelling names own e)) (after spelling names own e)
+              | false ↦ leaves None own
+            ]
+      ]
 
-pub found_none : (spelling : Spelling) (own : Own) (cell : List ℕ) (r : Option Tree)
-    → MatchOption r ((e : Tree) → IsBuilt spelling own cell e → ⊥) (λ e. IsBuilt spelling own cell e) → r ≡ None → (e : Tree) → IsBuilt spelling own cell e → ⊥
-found_none spelling own cell r is at = subst (λ q. MatchOption q ((e : Tree) → IsBuilt spelling own cell e → ⊥) (λ e. IsBuilt spelling own cell e)) at is
+  abbrev by_test : Bool → Own → Tree → Ran
+  by_test b own e = elim b [ true ↦ leaves (Some (value_of_cell spelling names own e)) (after spelling names own e) | false ↦ leaves None own ]
+
+  pub ran_none : (own : Own) (ls : List Lexeme) (e : Tree) → has_some ls ≡ false → ran spelling names find own ls e ≡ leaves (Some e) own
+  ran_none own [] e is = refl
+  ran_none own (l ∷ ls) e is = absurd (true≢false is)
+
+  pub ran_shallow : (own : Own) (ls : List Lexeme) (e : Tree) → has_some ls ≡ true → depth e ≤ 512 → ran spelling names find own ls e ≡ by_test (is_evaluated spelling names own e) own e
+  ran_shallow own [] e is shallow = absurd (true≢false (sym is))
+  ran_shallow own (l ∷ ls) e is shallow = ap (λ d. by_depth d own e) (le-leb (depth e) 512 shallow)
+
+  pub ran_evaluated : (own : Own) (ls : List Lexeme) (e : Tree) → has_some ls ≡ true → depth e ≤ 512 → is_evaluated spelling names own e ≡ true
+      → ran spelling names find own ls e ≡ leaves (Some (value_of_cell spelling names own e)) (after spelling names own e)
+  ran_evaluated own ls e is shallow good = ran_shallow own ls e is shallow ∙ ap (λ b. by_test b own e) good
+
+  pub ran_unbuilt : (own : Own) (ls : List Lexeme) (e : Tree) → has_some ls ≡ true → depth e ≤ 512 → is_evaluated spelling names own e ≡ false
+      → ran spelling names find own ls e ≡ leaves None own
+  ran_unbuilt own ls e is shallow bad = ran_shallow own ls e is shallow ∙ ap (λ b. by_test b own e) bad
+
+  is_deep : (e : Tree) → 512 < depth e → leb (depth e) 512 ≡ false
+  is_deep e deep = go (leb (depth e) 512) refl
+    where
+      go : (b : Bool) → leb (depth e) 512 ≡ b → b ≡ false
+      go true is = absurd (omega (arith, deep, leb-true (depth e) 512 is))
+      go false is = refl
+
+  -- a cell that is read too deep has a token
+  pub ran_deep : (own : Own) (cell : List ℕ) (e : Tree) → Reads names find cell e → 512 < depth e
+      → ran spelling names find own (lexemes cell) e ≡ leaves (Some (name names Builtin.Aborted)) own
+  ran_deep own cell e r deep = go (lexemes cell) r.read
+    where
+      go : (ls : List Lexeme) → LexemesRead names find ls e → ran spelling names find own ls e ≡ leaves (Some (name names Builtin.Aborted)) own
+      go [] null = absurd (omega (arith, deep, ap depth null))
+      go (l ∷ ls) some = ap (λ d. by_depth d own e) (is_deep e deep)
+
+  pub prints_read : (own later : Own) (n : ℕ) (cell line : List ℕ) (e : Tree) (r : Ran) → Reads names find cell e → ran spelling names find own (lexemes cell) e ≡ r
+      → line ≡ line_of spelling names find n r.value → later ≡ r.own → PrintsCell spelling names find own n cell line later
+  prints_read own later n cell line e r reads is at given =
+      subst (λ o. PrintsCell spelling names find own n cell line o) (sym (given ∙ sym (ap (λ x. x.own) is)))
+      (subst (λ l. PrintsCell spelling names find own n cell l (ran spelling names find own (lexemes cell) e).own) (sym (at ∙ sym (ap (λ x. line_of spelling names find n x.value) is))) (read e reads))
+
+  pub prints_unread : (own : Own) (n : ℕ) (cell line : List ℕ) (place : ℕ) → IsOffset names find cell place → line ≡ syntax_line n place
+      → PrintsCell spelling names find own n cell line own
+  prints_unread own n cell line place p at = subst (λ l. PrintsCell spelling names find own n cell l own) (sym at) (unread place p)
+
+  -- ---- what a line that may want memory says of the cell
+
+  pub read_line : {E : Type 0} (r : Result (List ℕ) E) (own later : Own) (n : ℕ) (cell : List ℕ) (e : Tree) (v : Option Tree) → Reads names find cell e
+      → v ≡ (ran spelling names find own (lexemes cell) e).value → later ≡ (ran spelling names find own (lexemes cell) e).own
+      → IfOk r (λ t. t ≡ line_of spelling names find n v) → IfOk r (λ line. PrintsCell spelling names find own n cell line later)
+  read_line (Ok t) own later n cell e v reads is given at =
+      prints_read own later n cell t e (ran spelling names find own (lexemes cell) e) reads refl (at ∙ ap (line_of spelling names find n) is) given
+  read_line (Err x) own later n cell e v reads is given at = tt
+
+  pub deep_line : {E : Type 0} (r : Result (List ℕ) E) (own : Own) (n : ℕ) (cell : List ℕ) (v : Tree) → ((e : Tree) × Reads names find cell e × (512 < depth e))
+      → v ≡ name names Builtin.Aborted → IfOk r (λ t. t ≡ out_line spelling names n v) → IfOk r (λ line. PrintsCell spelling names find own n cell line own)
+  deep_line (Ok t) own n cell v d is at =
+      prints_read own own n cell t d.0 (leaves (Some (name names Builtin.Aborted)) own) d.1 (ran_deep own cell d.0 d.1 d.2) (at ∙ ap (out_line spelling names n) is) refl
+  deep_line (Err x) own n cell v d is at = tt
+
+  pub unread_line : {E : Type 0} (r : Result (List ℕ) E) (own : Own) (n : ℕ) (cell : List ℕ) (place : ℕ) → IsOffset names find cell place
+      → IfOk r (λ t. t ≡ syntax_line n place) → IfOk r (λ line. PrintsCell spelling names find own n cell line own)
+  unread_line (Ok t) own n cell place p at = prints_unread own n cell t place p at
+  unread_line (Err x) own n cell place p at = tt
+
+pub ruleset value_steps = (ran_none, ran_evaluated, ran_unbuilt)
+
+-- why a cell was not read
+pub no_is : (table : NameTable) (cell : List ℕ) (r : Result Tree ReadNo) (f why : ReadNo) → IfErr r (λ x. IsNo table cell x) → r ≡ Err f → f ≡ why → IsNo table cell why
+no_is table cell r f why is at same = subst (λ x. IsNo table cell x) same (subst (λ q. IfErr q (λ x. IsNo table cell x)) at is)
+
+-- ---- tokens
+
+some_tokens : (text : List ℕ) (at : ℕ) (ts : List Token) (empty : Bool) → IsTrue empty ↔ (ts ≡ []) → not empty ≡ has_some (lexemes_after text at (map token_of ts))
+some_tokens text at [] true h = refl
+some_tokens text at [] false h = absurd (true≢false (sym (h.1 refl)))
+some_tokens text at (t ∷ ts) true h = absurd (omega (arith, ap length (h.0 refl)))
+some_tokens text at (t ∷ ts) false h = refl
+
+pub has_tokens : (cell : List ℕ) (l : Lexed) (empty : Bool) → lexed l ≡ lex cell → IsTrue empty ↔ (l.tokens ≡ []) → not empty ≡ has_some (lexemes cell)
+has_tokens cell l empty same h = some_tokens cell 0 l.tokens empty h ∙ ap (λ x. has_some (lexemes_after cell 0 x.tokens)) same

@@ -1,21 +1,23 @@
 -- What a run promises, by its status.
 --     IsTranscript         the lines of all cells of a script
 --     Begins               the lines of some cells at the front of a script
---     IsWhole              the script was read to its end, and has at most 1,048,576 bytes
+--     IsWhole              the bytes were read to their end, and are at most 1,048,576
 --     Writes               what was written of a script
 --     Ends, Runs           both ends as they stand; what was read and written between two moments
+--     Completes            which statuses come where nothing fails
 -- Each Option is the bytes that the source has left, or that the sink holds, where they are told; each count is that of failures.
-use Rattle.std.specs.Prelude.{◌≡◌, ℕ, ◌≤◌, ◌<◌, List, [], ◌∷◌, ◌++◌, length, take}
+use Rattle.std.specs.Prelude.{◌≡◌, ◌⊎◌, ℕ, ◌≤◌, ◌<◌, List, [], ◌∷◌, ◌++◌, length, take}
+use Rattle.std.specs.Str.{IsUtf8}
 use Rattle.std.specs.declared.option.Option.{Option}
+use Rattle.std.specs.declared.option.Option.TheVariants.{Some}
 use Rattle.std.specs.Io.KnownBytes.{Consumes, IsAtEnd, Appends}
 use Rattle.script_text.specs.Bytes.{all_joined}
 use Rattle.script_text.specs.Cells.{cells}
-use Rattle.script_text.specs.Spelling.{by_texts}
-use Rattle.first_language.specs.Transcript.{Prints, names_of}
+use Rattle.first_language.specs.Transcript.{Transcript}
 use Rattle.port_io.specs.Counts.{Rose}
 use Rattle.script_run.specs.Words.{AreRead}
 use Rattle.script_run.specs.declared.report.Status.{Status}
-use Rattle.script_run.specs.declared.report.Status.TheVariants.{Done, Usage, ReadFault, WriteFault, NoMemory, TooLong}
+use Rattle.script_run.specs.declared.report.Status.TheVariants.{Done, Usage, ReadFault, WriteFault, NoMemory, TooLong, NotText}
 
 abbrev pub Known : Type 0
 Known = Option (List ℕ)
@@ -23,17 +25,14 @@ Known = Option (List ℕ)
 abbrev pub limit : ℕ
 limit = 1048576
 
-abbrev pub LinesOf : List ℕ → List (List ℕ) → List (List ℕ) → Type 0
-LinesOf script texts lines = Prints (by_texts (names_of (cells script))) [] 1 texts lines
-
 abbrev pub IsTranscript : List ℕ → List (List ℕ) → Type 0
-IsTranscript script lines = LinesOf script (cells script) lines
+IsTranscript script lines = Transcript (cells script) (cells script) lines
 
 abbrev pub Begins : List ℕ → List (List ℕ) → Type 0
-Begins script lines = (texts rest : List (List ℕ)) × (cells script ≡ texts ++ rest) × LinesOf script texts lines
+Begins script lines = (front rest : List (List ℕ)) × (cells script ≡ front ++ rest) × Transcript (cells script) front lines
 
 abbrev pub IsWhole : Known → Known → List ℕ → Type 0
-IsWhole before now script = Consumes before now script × IsAtEnd now × (length script ≤ limit)
+IsWhole before now bytes = Consumes before now bytes × IsAtEnd now × (length bytes ≤ limit)
 
 -- all lines; or lines and a part of the next one, with a failure that is counted; or lines at the front
 abbrev pub Writes : Known → Known → ℕ → ℕ → List ℕ → Status → Type 0
@@ -44,6 +43,7 @@ Writes held after faults rose script NoMemory = (lines : List (List ℕ)) × Beg
 Writes held after faults rose script Usage = ⊥
 Writes held after faults rose script ReadFault = ⊥
 Writes held after faults rose script TooLong = ⊥
+Writes held after faults rose script NotText = ⊥
 
 -- the bytes that the source has left and that the sink holds, and the counts of their failures
 pub record Ends : Type 0 where
@@ -52,9 +52,11 @@ pub record Ends : Type 0 where
   pub held : Known
   pub write_faults : ℕ
 
+-- the input is a text, and lines of its cells were written
 abbrev pub RunsWhole : Ends → Ends → Status → Type 0
 RunsWhole before after status =
-    (script : List ℕ) × IsWhole before.left after.left script × Writes before.held after.held before.write_faults after.write_faults script status
+    (script : List ℕ) × IsWhole before.left after.left script × IsUtf8 script
+    × Writes before.held after.held before.write_faults after.write_faults script status
 
 -- by the status: what was read, and what was written
 abbrev pub Runs : List (List ℕ) → Ends → Ends → Status → Type 0
@@ -67,3 +69,14 @@ Runs words before after NoMemory =
     AreRead words × (bytes : List ℕ) × Consumes before.left after.left bytes × (length bytes ≤ limit)
     × (lines : List (List ℕ)) × Begins bytes lines × Appends before.held after.held (all_joined lines)
 Runs words before after TooLong = AreRead words × (bytes : List ℕ) × Consumes before.left after.left bytes × (limit < length bytes)
+Runs words before after NotText = AreRead words × (bytes : List ℕ) × IsWhole before.left after.left bytes × ¬ IsUtf8 bytes
+
+-- the sink takes the lines of all cells at the front of the script
+abbrev pub TakesAll : (ℕ → Type 0) → List ℕ → Type 0
+TakesAll takes script = (lines : List (List ℕ)) → Begins script lines → takes (length (all_joined lines))
+
+-- words that are read, a text within the limit that is left in a source that does not fail, and a sink that takes its transcript
+abbrev pub Completes : List (List ℕ) → Known → Type 0 → (ℕ → Type 0) → Status → Type 0
+Completes words left never_fails takes status =
+    AreRead words → never_fails → (script : List ℕ) → left ≡ Some script → length script ≤ limit → IsUtf8 script → TakesAll takes script
+    → (status ≡ Done) ⊎ (status ≡ NoMemory)

@@ -1,9 +1,8 @@
 //! Runs a script: its words, its cells, and a line for each.
 #![tactic(auto)]
 
-mod built;
-mod cells;
-mod evaluation;
+mod cell;
+mod cell_text;
 mod lines;
 mod report;
 mod run;
@@ -11,8 +10,6 @@ mod script_names;
 mod words;
 mod writing;
 
-pub use cells::{Cut, first_cell};
-pub use lines::{out_line, unbuilt_line};
 pub use report::{Report, Status};
 pub use run::run_alone;
 pub use words::are_read;

@@ -14,6 +14,8 @@ pub enum Status {
     NoMemory,
     /// The input has more than 1,048,576 bytes.
     TooLong,
+    /// The input is not UTF-8.
+    NotText,
 }
 
 impl Status {
@@ -28,6 +30,7 @@ impl Status {
             Status::WriteFault => 4,
             Status::NoMemory => 5,
             Status::TooLong => 6,
+            Status::NotText => 7,
         }
     }
 }

@@ -1,12 +1,13 @@
 //! A run of a script without kernels.
 ghost use Rattle.std.specs.Prelude.{◌≡◌, ◌≤◌, map, string_bytes};
-ghost use Rattle.script_run.specs.Promise.{Ends, Runs};
+ghost use Rattle.script_run.specs.Promise.{Completes, Ends, Runs};
 
 use crate::report::{Report, Status};
 use crate::words::are_read;
 use crate::writing::run_script;
 use port_io::{ReadNo, Sink, Source, read_all};
 use std::alloc::Global;
+use std::str;
 
 /// The most bytes that a script has.
 const LIMIT: u64 = 1_048_576;
@@ -25,6 +26,8 @@ pub fn run_alone<S: Source, K: Sink>(
     ensures untouched { result.status ≡ Status.Usage → (source.new ≡ source.old) × (sink.new ≡ sink.old) }
     ensures unread { result.status ≡ Status.ReadFault → sink.new ≡ sink.old }
     ensures too_long { result.status ≡ Status.TooLong → sink.new ≡ sink.old }
+    ensures not_text { result.status ≡ Status.NotText → sink.new ≡ sink.old }
+    ensures complete { Completes (map string_bytes words.now) (S.left source.old) (S.never_fails source.old) (K.takes sink.old) result.status }
     ensures read_counted { S.faults source.old ≤ S.faults source.new }
     ensures write_counted { K.faults sink.old ≤ K.faults sink.new }
 {
@@ -34,8 +37,13 @@ pub fn run_alone<S: Source, K: Sink>(
         };
     }
     match read_all(alloc, source, LIMIT) {
-        Ok(script) => Report {
-            status: run_script(alloc, script.as_slice(), sink),
+        Ok(bytes) => match str::from_utf8(bytes.as_slice()) {
+            Ok(script) => Report {
+                status: run_script(alloc, script, sink),
+            },
+            Err(_) => Report {
+                status: Status::NotText,
+            },
         },
         Err(ReadNo::Fault) => Report {
             status: Status::ReadFault,

@@ -1,59 +1,51 @@
 //! The names of a script.
-ghost use Rattle.std.specs.Prelude.{◌≡◌, ◌≤◌, ◌++◌, ◌∷◌, [], length, IfOk, OnOk};
+ghost use Rattle.std.specs.Prelude.{◌≡◌, ◌≤◌, ◌++◌, length, IfOk, OnOk};
 ghost use Rattle.script_text.specs.Cells.{cells};
-ghost use Rattle.first_language.specs.Transcript.{known_names, names_of, written_names};
+ghost use Rattle.syntax.specs.Tokens as syn;
+ghost use Rattle.builtin_names.specs.Named.{HasBuiltins};
+ghost use Rattle.lex_form.specs.Spans.{texts_of as span_texts};
+ghost use Rattle.first_language.specs.Transcript.{texts_of, written_names};
+ghost use Rattle.script_run.specs.Cells.{AreCellSpans};
 
-use crate::built::ascii_text;
-use crate::cells::first_cell;
-use expr_tree::{Text, Texts};
+use crate::cell_text::cell_text;
+use builtin_names::names_with;
+use expr_tree::Texts;
+use lex_form::{Spans, lex, names_of};
 use name_table::Names;
-use show_form::full_names;
 use std::alloc::{AllocError, Global};
 
-/// The names that the language knows.
-fn known_names(alloc: Global) -> Result<Texts, AllocError>
-    ensures { IfOk result (λ names. names ≡ known_names) }
+/// Adds the names that stand in a cell.
+fn add_names(alloc: Global, cell: &str, names: &mut Texts) -> Result<(), AllocError>
+    ensures { OnOk result (names.new ≡ names.old ++ syn.names_in cell.now (syn.lex cell.now).tokens) }
 {
-    let mut names = Texts::new(alloc);
-    names.push(Text::of(alloc, "Plus")?)?;
-    names.push(Text::of(alloc, "Set")?)?;
-    Ok(names)
-}
-
-/// Adds the names that stand in a cell, where it is ASCII.
-#[tactic(auto, using(crate::proofs::NameLemmas::name_steps))]
-fn add_names(alloc: Global, cell: &[u8], names: &mut Texts) -> Result<(), AllocError>
-    ensures { OnOk result (names.new ≡ names.old ++ written_names (cell.now ∷ [])) }
-{
-    match ascii_text(cell) {
-        Some(text) => {
-            full_names(alloc, text, names)?;
-            Ok(())
-        }
-        None => Ok(()),
-    }
+    let lexed = lex(alloc, cell)?;
+    names_of(alloc, cell, &lexed.tokens, names)
 }
 
 /// The names that stand in the cells, as often as they stand there.
-fn written_names(alloc: Global, script: &[u8]) -> Result<Texts, AllocError>
-    ensures names { IfOk result (λ names. names ≡ written_names (cells script.now)) }
-    ensures few { IfOk result (λ names. length names ≤ length script.now) }
+fn written_names(alloc: Global, script: &str, spans: &Spans) -> Result<Texts, AllocError>
+    requires { AreCellSpans script.now spans.now }
+    ensures { IfOk result (λ names. names ≡ written_names (span_texts script.now spans.now)) }
 {
     let mut names = Texts::new(alloc);
-    let mut rest = script;
-    while let Some(cut) = first_cell(rest) {
-        add_names(alloc, cut.cell, &mut names)?;
-        rest = cut.rest;
+    for span in spans.as_slice() {
+        add_names(alloc, cell_text(script, *span), &mut names)?;
     }
     Ok(names)
 }
 
-/// The names of a script, by its cells.
-pub(crate) fn names_of_script(alloc: Global, script: &[u8]) -> Result<Names, AllocError>
-    requires { length script.now ≤ 1048576 }
-    ensures { IfOk result (λ names. names.texts ≡ names_of (cells script.now)) }
+/// The names of a script and of the built-in table.
+pub(crate) fn names_of_script(
+    alloc: Global,
+    script: &str,
+    spans: &Spans,
+) -> Result<Names, AllocError>
+    requires short { length script.now ≤ 1048576 }
+    requires spans { AreCellSpans script.now spans.now }
+    requires cells { span_texts script.now spans.now ≡ cells script.now }
+    ensures texts { IfOk result (λ names. names.texts ≡ texts_of (cells script.now)) }
+    ensures known { IfOk result (λ names. HasBuiltins names) }
 {
-    let known = known_names(alloc)?;
-    let written = written_names(alloc, script)?;
-    Names::of_texts(alloc, &known, &written)
+    let written = written_names(alloc, script, spans)?;
+    names_with(alloc, &written)
 }

@@ -1,79 +1,67 @@
 //! Writes the transcript of a script.
-ghost use Rattle.std.specs.Prelude.{◌≡◌, ◌≤◌, length, true, OnOk, IfOk};
+ghost use Rattle.std.specs.Prelude.{◌≡◌, ◌≢◌, ◌≤◌, length};
 ghost use Rattle.script_text.specs.Cells.{cells};
-ghost use Rattle.script_text.specs.FullNames.{names_in};
-ghost use Rattle.script_text.specs.Spelling.{by_texts};
-ghost use Rattle.first_language.specs.Transcript.{is_ascii, names_of, PrintsCell};
-ghost use Rattle.show_form.specs.Faults.{AreKeptNames};
-ghost use Rattle.script_run.specs.Promise.{Writes};
+ghost use Rattle.builtin_names.specs.Named.{HasBuiltins};
+ghost use Rattle.lex_form.specs.Spans.{texts_of as span_texts};
+ghost use Rattle.first_language.specs.Transcript.{texts_of};
+ghost use Rattle.script_run.specs.Cells.{AreCellSpans};
+ghost use Rattle.script_run.specs.Promise.{Writes, TakesAll};
 
-use crate::built::built;
-use crate::cells::first_cell;
-use crate::evaluation::evaluate;
-use crate::lines::{out_line, unbuilt_line};
+use crate::cell::run_cell;
+use crate::cell_text::cell_text;
 use crate::report::Status;
 use crate::script_names::names_of_script;
-use expr_tree::Text;
 use first_values::OwnValues;
+use lex_form::{Spans, cells};
 use name_table::Names;
 use port_io::{Failed, Sink};
-use std::alloc::{AllocError, Global};
-
-/// Runs the n-th cell, and gives its line.
-fn run_cell(
-    alloc: Global,
-    names: &Names,
-    own: &mut OwnValues,
-    n: u64,
-    cell: &[u8],
-) -> Result<Text, AllocError>
-    requires names { is_ascii cell.now ≡ true → AreKeptNames names.now.texts (names_in cell.now) }
-    ensures { IfOk result (λ line. PrintsCell (by_texts names.now.texts) own.old n cell.now line own.new) }
-{
-    match built(alloc, names, own, cell)? {
-        Some(e) => {
-            let value = evaluate(names, own, &e)?;
-            out_line(alloc, n, value)
-        }
-        None => unbuilt_line(alloc, n),
-    }
-}
+use std::alloc::Global;
 
 /// Runs the cells and writes the line of each, until a write fails.
 #[tactic(auto, using(crate::proofs::WritingLemmas::writing_steps))]
-fn write_cells<K: Sink>(alloc: Global, names: &Names, script: &[u8], sink: &mut K) -> Status
-    requires { names.now.texts ≡ names_of (cells script.now) }
+fn write_cells<K: Sink>(
+    alloc: Global,
+    names: &Names,
+    script: &str,
+    spans: &Spans,
+    sink: &mut K,
+) -> Status
+    requires short { length script.now ≤ 1048576 }
+    requires spans { AreCellSpans script.now spans.now }
+    requires cells { span_texts script.now spans.now ≡ cells script.now }
+    requires texts { names.now.texts ≡ texts_of (cells script.now) }
+    requires names { HasBuiltins names.now }
     ensures written { Writes (K.held sink.old) (K.held sink.new) (K.faults sink.old) (K.faults sink.new) script.now result }
     ensures counted { K.faults sink.old ≤ K.faults sink.new }
+    ensures sure { TakesAll (K.takes sink.old) script.now → result ≢ Status.WriteFault }
 {
     let mut own = OwnValues::new(alloc);
-    let mut rest = script;
-    let mut written: u64 = 0;
-    loop {
-        let Some(cut) = first_cell(rest) else {
-            return Status::Done;
-        };
-        let Ok(line) = run_cell(alloc, names, &mut own, written + 1, cut.cell) else {
+    for (at, span) in spans.as_slice().iter().enumerate() {
+        let cell = cell_text(script, *span);
+        let Ok(line) = run_cell(alloc, names, &mut own, at as u64 + 1, cell) else {
             return Status::NoMemory;
         };
         match sink.write_all(line.as_str().as_bytes()) {
             Ok(()) => {}
             Err(Failed) => return Status::WriteFault,
         }
-        rest = cut.rest;
-        written += 1;
     }
+    Status::Done
 }
 
 /// Runs a script, and writes its transcript.
-#[tactic(auto, using(crate::proofs::WritingLemmas::writing_steps))]
-pub(crate) fn run_script<K: Sink>(alloc: Global, script: &[u8], sink: &mut K) -> Status
+#[tactic(auto, using(crate::proofs::WritingLemmas::writing_steps, crate::proofs::TextLemmas::cell_spans))]
+pub(crate) fn run_script<K: Sink>(alloc: Global, script: &str, sink: &mut K) -> Status
     requires { length script.now ≤ 1048576 }
     ensures written { Writes (K.held sink.old) (K.held sink.new) (K.faults sink.old) (K.faults sink.new) script.now result }
     ensures counted { K.faults sink.old ≤ K.faults sink.new }
+    ensures sure { TakesAll (K.takes sink.old) script.now → result ≢ Status.WriteFault }
 {
-    match names_of_script(alloc, script) {
-        Ok(names) => write_cells(alloc, &names, script, sink),
+    let Ok(spans) = cells(alloc, script) else {
+        return Status::NoMemory;
+    };
+    match names_of_script(alloc, script, &spans) {
+        Ok(names) => write_cells(alloc, &names, script, &spans, sink),
         Err(_) => Status::NoMemory,
     }
 }

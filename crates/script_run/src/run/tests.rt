@@ -41,13 +41,73 @@ fn printed(alloc: Global, script: &[u8]) -> Result<MemSink, Fail> {
 #[test]
 fn writes_a_line_for_each_cell(rt: HostRuntime) -> Result<(), Fail> {
     let alloc = rt.alloc();
-    let sink = printed(alloc, b"Set[x, 3]\n\nPlus[x, 4]\n")?;
+    let sink = printed(alloc, b"x = 3\n\nx + 4\n")?;
     assert_eq!(rt; sink.bytes(), b"Out[1]= 3\nOut[2]= 7\n".as_slice());
-    let sink = printed(alloc, b"1 + 2\n \nPlus[z, 1]\n\nPlus[]")?;
+    let sink = printed(alloc, b"1 + 2\n \nz + 1\n\nPlus[]")?;
     assert_eq!(rt;
         sink.bytes(),
-        b"Unbuilt[1]\nUnbuilt[2]\nOut[3]= 0\n".as_slice()
+        b"Out[1]= 3\nUnbuilt[2]\nOut[3]= 0\n".as_slice()
     );
+    Ok(())
+}
+
+#[test]
+fn shows_what_is_held(rt: HostRuntime) -> Result<(), Fail> {
+    let alloc = rt.alloc();
+    let sink = printed(alloc, b"HoldComplete[-x^2 - 3 y /; a == b]")?;
+    assert_eq!(rt;
+        sink.bytes(),
+        b"Out[1]= HoldComplete[-x^2 - 3*y /; a == b]\n".as_slice()
+    );
+    let sink = printed(alloc, b"HoldComplete[# + 1 & /@ a]")?;
+    assert_eq!(rt;
+        sink.bytes(),
+        b"Out[1]= HoldComplete[Map[#1 + 1 &, a]]\n".as_slice()
+    );
+    Ok(())
+}
+
+#[test]
+fn says_where_a_cell_has_no_reading(rt: HostRuntime) -> Result<(), Fail> {
+    let sink = printed(rt.alloc(), b"(* only a comment *)\n\n\"open")?;
+    assert_eq!(rt; sink.bytes(), b"Syntax[2]: 0\n".as_slice());
+    Ok(())
+}
+
+/// `f[` so many times round `x`.
+fn nested(alloc: Global, levels: usize) -> Result<Vec<u8>, Fail> {
+    let mut script = Vec::new(alloc);
+    for _ in 0..levels {
+        script.extend_from_slice(b"f[")?;
+    }
+    script.push(b'x')?;
+    for _ in 0..levels {
+        script.push(b']')?;
+    }
+    Ok(script)
+}
+
+#[test]
+fn gives_up_on_deep_cells(rt: HostRuntime) -> Result<(), Fail> {
+    let script = nested(rt.alloc(), 511)?;
+    let sink = printed(rt.alloc(), script.as_slice())?;
+    assert_eq!(rt; sink.bytes(), b"Unbuilt[1]\n".as_slice());
+    let script = nested(rt.alloc(), 512)?;
+    let sink = printed(rt.alloc(), script.as_slice())?;
+    assert_eq!(rt; sink.bytes(), b"Out[1]= $Aborted\n".as_slice());
+    Ok(())
+}
+
+#[test]
+fn takes_no_other_bytes_than_text(rt: HostRuntime) -> Result<(), Fail> {
+    let alloc = rt.alloc();
+    let words = words_of(alloc, "0")?;
+    let mut source = source_of(alloc, vec![in alloc; 255; 1]?, None)?;
+    let mut sink = MemSink::new(alloc, 100, calls_of(alloc, None)?)?;
+    let report = run_alone(alloc, words.as_slice(), &mut source, &mut sink);
+    assert_eq!(rt; report.status, Status::NotText);
+    assert_eq!(rt; report.status.number(), 7);
+    assert!(rt; sink.bytes().is_empty());
     Ok(())
 }
 
@@ -78,7 +138,7 @@ fn judges_whole_sums(rt: HostRuntime) -> Result<(), Fail> {
 fn stops_at_a_fault(rt: HostRuntime) -> Result<(), Fail> {
     let alloc = rt.alloc();
     let words = words_of(alloc, "0")?;
-    let script = Vec::from_slice(alloc, b"Set[x, 3]\n\nPlus[x, 4]\n")?;
+    let script = Vec::from_slice(alloc, b"x = 3\n\nx + 4\n")?;
     let mut source = source_of(alloc, script, Some(1))?;
     let mut sink = MemSink::new(alloc, 100, calls_of(alloc, Some(2))?)?;
     let report = run_alone(alloc, words.as_slice(), &mut source, &mut sink);

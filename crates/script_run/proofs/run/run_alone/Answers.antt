@@ -1,9 +1,25 @@
-use Rattle.std.proofs.Common.{[]}
-use Rattle.script_run.proofs.RunLemmas.{read_unanswered}
-use Rattle.script_run.proofs.WritingLemmas.{appends-nothing, begins_nothing}
+use Rattle.std.proofs.Common.{◌≡◌, sym, ◌∙◌, subst, map, Global}
+use Rattle.std.specs.Prelude.{string_bytes}
+use Rattle.std.specs.Str.{IsUtf8}
+use Rattle.script_run.specs.Promise.{IsWhole}
+use Rattle.script_run.proofs.RunLemmas.{whole_read, runs_written, complete_run}
 use Rattle.script_run.proofs.run.run_alone.Goals as goal
 
-pub returns-in-Err-NoMemory-clause-outcome : goal.returns-in-Err-NoMemory-clause-outcome
-returns-in-Err-NoMemory-clause-outcome g c =
-    let read = read_unanswered _ _ _ _ c.read_all.result c.in-Err-NoMemory.field-0 c.read_all.ensures.bytes c.in-Err-NoMemory.is c.in-Err-NoMemory.field-0-is in
-    (c.if-not-are_read.ensures, read.0, read.1, read.2, [], begins_nothing read.0, appends-nothing _)
+pub returns-in-Ok-from_utf8-clause-outcome : goal.returns-in-Ok-from_utf8-clause-outcome
+returns-in-Ok-from_utf8-clause-outcome g c =
+    let left = g.S.Source.left c.args.source.now in
+    let rest = g.S.Source.left c.read_all.new.source in
+    let same : c.in-Ok-from_utf8.script.now ≡ c.in-Ok.bytes = c.in-Ok-from_utf8.ensures.cases.0 ∙ c.as_slice.ensures in
+    let whole = subst (λ b. IsWhole left rest b) (sym same) (whole_read left rest (g.S.Source.faults c.args.source.now) (g.S.Source.faults c.read_all.new.source) c.in-Ok.bytes c.in-Ok.ensures.bytes) in
+    let text = subst IsUtf8 (sym c.in-Ok-from_utf8.ensures.cases.0) c.in-Ok-from_utf8.ensures.cases.1 in
+    runs_written (map (string_bytes {Z = Global}) c.args.words.now) _ _ c.in-Ok-from_utf8.script.now c.run_script.result c.if-not-are_read.ensures whole text c.run_script.ensures.written
+
+pub returns-in-Ok-from_utf8-clause-complete : goal.returns-in-Ok-from_utf8-clause-complete
+returns-in-Ok-from_utf8-clause-complete g c =
+    let left = g.S.Source.left c.args.source.now in
+    let rest = g.S.Source.left c.read_all.new.source in
+    let same : c.in-Ok-from_utf8.script.now ≡ c.in-Ok.bytes = c.in-Ok-from_utf8.ensures.cases.0 ∙ c.as_slice.ensures in
+    let whole = subst (λ b. IsWhole left rest b) (sym same) (whole_read left rest (g.S.Source.faults c.args.source.now) (g.S.Source.faults c.read_all.new.source) c.in-Ok.bytes c.in-Ok.ensures.bytes) in
+    complete_run (map (string_bytes {Z = Global}) c.args.words.now) left rest (g.S.Source.never_fails c.args.source.now) (g.K.Sink.takes c.args.sink.now) (g.K.Sink.held c.args.sink.now)
+    (g.K.Sink.held c.run_script.new.sink) (g.K.Sink.faults c.args.sink.now) (g.K.Sink.faults c.run_script.new.sink) c.in-Ok-from_utf8.script.now c.run_script.result whole c.run_script.ensures.written
+    c.run_script.ensures.sure

@@ -1,14 +1,12 @@
-use Rattle.std.proofs.Common.{◌≡◌, ◌≤◌, ◌+◌, ◌++◌, length}
-use Rattle.script_text.specs.Cells.{cells}
+use Rattle.std.proofs.Common.{◌≡◌, ◌++◌, map, drop}
+use Rattle.lex_form.specs.Spans.{span_text}
 use Rattle.first_language.specs.Transcript.{written_names}
+use Rattle.script_run.specs.Cells.{AreCellSpans}
 use Rattle.script_run.proofs.script_names.written_names.Given as goal
 
 -- the names of the cells so far, and of those that are left
-abbrev pub invariant-loop-cut : goal.invariant-loop-cut
-invariant-loop-cut l = record {
-  names : l.names ++ written_names (cells l.rest) ≡ written_names (cells l.script);
-  few : length l.names + length l.rest ≤ length l.script;
+abbrev pub invariant-loop-span : goal.invariant-loop-span
+invariant-loop-span l = record {
+  names : l.names ++ written_names (map (span_text l.script) (drop l.span-index l.spans)) ≡ written_names (map (span_text l.script) l.spans);
+  spans : AreCellSpans l.script (drop l.span-index l.spans);
 }
-
-abbrev pub decreases-loop-cut : goal.decreases-loop-cut
-decreases-loop-cut l = length l.rest

@@ -1,22 +1,22 @@
-use Rattle.std.proofs.Common.{◌≤◌, ◌+◌, List, ℕ, length}
+use Rattle.std.proofs.Common.{◌≤◌, ◌+◌, List, ℕ, length, map, drop}
 use Rattle.std.specs.Io.KnownBytes.{Appends}
 use Rattle.script_text.specs.Bytes.{all_joined}
 use Rattle.script_text.specs.Cells.{cells}
-use Rattle.script_text.specs.Spelling.{by_texts}
+use Rattle.lex_form.specs.Spans.{span_text}
+use Rattle.script_run.specs.Cells.{AreCellSpans}
 use Rattle.script_run.proofs.NameLemmas.{AreKeptCells}
 use Rattle.script_run.proofs.TranscriptLemmas.{AreSoFar}
 use Rattle.script_run.proofs.writing.write_cells.Given as goal
 
--- lines were written, and the rest of the script is left
-abbrev pub invariant-loop-cut : goal.invariant-loop-cut
-invariant-loop-cut g l =
+-- lines were written, and the cells from here on are left
+abbrev pub invariant-loop-at : goal.invariant-loop-at
+invariant-loop-at g l =
     let K = g.K.Sink in
+    let rest = map (span_text l.script) (drop l.at l.spans) in
     record {
-      lines : (lines : List (List ℕ)) × AreSoFar (by_texts l.names.texts) l.script l.rest l.own (l.written + 1) lines × Appends (K.held l.fn.sink) (K.held l.sink) (all_joined lines);
-      kept : AreKeptCells l.names.texts (cells l.rest);
-      few : l.written + length l.rest ≤ length l.script;
+      lines : (lines : List (List ℕ)) × AreSoFar l.names.texts (cells l.script) rest l.own (l.at + 1) lines × Appends (K.held l.fn.sink) (K.held l.sink) (all_joined lines)
+          × ((more : ℕ) → K.takes l.fn.sink (length (all_joined lines) + more) → K.takes l.sink more);
+      spans : AreCellSpans l.script (drop l.at l.spans);
+      kept : AreKeptCells l.names.texts rest;
       counted : K.faults l.fn.sink ≤ K.faults l.sink;
     }
-
-abbrev pub decreases-loop-cut : goal.decreases-loop-cut
-decreases-loop-cut g l = length l.rest
