@@ -1,18 +1,18 @@
 -- Ends of programs that ask nothing.
-use Rattle.std.proofs.Common.{◌≡◌, ◌⊎◌, inl, inr, ℕ, suc, ◌+◌, ◌<◌, ◌≤◌, List, [], ◌∷◌, drop, length, get_or, true, false, Option, Some, None, Result, Ok, Err, refl, sym, subst, arith, drop-cons}
+use Rattle.std.proofs.Common.{◌≡◌, ◌⊎◌, inl, inr, ℕ, suc, ◌+◌, ◌<◌, ◌≤◌, List, [], drop, length, get_or, Some, Result, Ok, Err, sym, subst, arith, drop-cons}
 use Rattle.std.proofs.lemmas.Grind.{common_steps}
 use Rattle.std.specs.Result.{IsErrAnd}
 use Rattle.expr_tree.specs.Tree.{Tree}
 use Rattle.expr_tree.specs.declared.limits.Stop.{Stop}
 use Rattle.expr_tree.specs.declared.limits.Limits.{Limits}
-use Rattle.semantics.specs.Program.{Prog, Done, Check}
+use Rattle.semantics.specs.Program.{Prog, Done}
 use Rattle.semantics.specs.Assemble.{check_all}
 use Rattle.semantics.specs.Play.{Setting, State, too_large}
 use Rattle.evaluation_steps.specs.declared.Halt.{Halt}
 use Rattle.evaluation_steps.specs.Leads.{Step}
-use Rattle.evaluation_steps.specs.Words.{Fits, FitsBy}
+use Rattle.evaluation_steps.specs.Words.{Fits}
 use Rattle.evaluation_steps.specs.Stopping.{HaltsFor}
-use Rattle.evaluation_steps.specs.Moves.{Shows, same, fitting, HasStopped, stop, large, passing}
+use Rattle.evaluation_steps.specs.Moves.{Shows, same, fitting, HasStopped, large, passing}
 use Rattle.evaluation_steps.proofs.Laws.{reached_played, played_done, played_memory, fits_none, fits_some}
 use Rattle.evaluation_steps.proofs.Moving.{reached_shows, played_stops}
 use Rattle.eval_seq.specs.declared.ending.Ending.{Ending}

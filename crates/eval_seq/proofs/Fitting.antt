@@ -1,10 +1,9 @@
 -- When an expression is within the limits.
-use Rattle.std.proofs.Common.{◌≡◌, ◌<◌, ◌≤◌, ltb, true, false, Option, Some, None, Result, Ok, Err, refl}
+use Rattle.std.proofs.Common.{◌<◌, ◌≤◌, Ok, Err, refl}
 use Rattle.std.proofs.lemmas.Bool.{lt-ltb, le-ltb}
 use Rattle.expr_tree.specs.Tree.{Tree, size, depth}
 use Rattle.expr_tree.specs.declared.limits.Stop.{Stop}
 use Rattle.expr_tree.specs.declared.limits.Limits.{Limits}
-use Rattle.semantics.specs.Play.{too_large}
 use Rattle.evaluation_steps.specs.declared.Halt.{Halt}
 use Rattle.evaluation_steps.specs.Words.{Fits}
 

@@ -3,7 +3,7 @@ use Rattle.std.proofs.Common.{◌≡◌, Bool, true, false, ◌&&◌, List, Opti
 use Rattle.expr_tree.specs.declared.sym.Sym.{Sym}
 use Rattle.expr_tree.specs.Tree.{Tree}
 use Rattle.semantics.specs.Definitions.{Share}
-use Rattle.semantics.specs.Program.{Prog, Done, Outer, Access, Seen, Moded, Mode, Cell, Item, Service}
+use Rattle.semantics.specs.Program.{Prog, Done, Outer, Access, Moded, Mode, Cell, Item, Service}
 use Rattle.semantics.specs.Sections.{access_or, same_share, unless_access}
 use Rattle.semantics.specs.Pass.{marked}
 use Rattle.semantics.specs.Play.{Setting, State, Play, Evaluator, run, seen, now_used}

@@ -1,16 +1,15 @@
 -- An outside that may be called may be called again after each step.
-use Rattle.std.proofs.Common.{ℕ, Some, Result, Ok, Err}
+use Rattle.std.proofs.Common.{ℕ, Some, Result, Ok}
 use Rattle.expr_tree.specs.Tree.{Tree}
 use Rattle.semantics.specs.Program.{Prog, Done}
 use Rattle.expr_tree.specs.Tree.{integer}
 use Rattle.std.specs.Prelude.{pos}
 use Rattle.semantics.specs.Play.{Setting, State, Play}
 use Rattle.evaluation_steps.specs.Leads.{Step, Leads, here, called}
-use Rattle.evaluation_steps.specs.Passed.{Passed}
 use Rattle.evaluation_steps.proofs.Laws.{went_somewhere}
 use Rattle.eval_seq.specs.declared.ending.Ending.{Ending}
 use Rattle.eval_seq.specs.Outward.{Guarded}
-use Rattle.eval_seq.specs.Walks.{Goes, Evaluates, Settles, Runs}
+use Rattle.eval_seq.specs.Walks.{Goes, Evaluates, Runs}
 use Rattle.eval_seq.specs.Sequence.{Turned}
 
 module _ {S : Type 0} {step : Step S} {ready : S → Type 0} where

@@ -1,30 +1,26 @@
 -- How head and elements are evaluated, and the fixed point.
-use Rattle.std.proofs.Common.{◌≡◌, ◌∙◌, ℕ, suc, ◌+◌, ◌-◌, ◌<◌, ◌≤◌, length, drop, get_or, drop-cons, arith, Bool, true, false, List, [], ◌∷◌, ◌++◌, Option, Some, None, Result, Ok, Err, refl, sym, subst, ap}
+use Rattle.std.proofs.Common.{◌≡◌, ℕ, suc, ◌+◌, ◌<◌, ◌≤◌, length, drop, get_or, drop-cons, arith, Bool, true, false, List, [], ◌∷◌, ◌++◌, Option, Some, None, Result, Ok, Err, refl, sym, subst}
 use Rattle.std.proofs.lemmas.List.{drop_all}
 use Rattle.std.specs.Result.{IsErrAnd}
-use Rattle.expr_tree.specs.Tree.{Tree, integer, string, symbol, normal, trees, elements, call, size, depth}
+use Rattle.expr_tree.specs.Tree.{Tree, integer, string, symbol, normal, call}
 use Rattle.expr_tree.specs.Order.{same}
 use Rattle.expr_tree.proofs.Same.{tree_eq-true, tree_eq-refl}
-use Rattle.expr_tree.proofs.Trees.{elements-trees}
-use Rattle.expr_tree.specs.declared.limits.Limits.{Limits}
 use Rattle.expr_tree.specs.declared.limits.Stop.{Stop}
 use Rattle.semantics.specs.Names.{Names}
-use Rattle.semantics.specs.Definitions.{Definitions, Attributes}
-use Rattle.semantics.specs.Program.{Prog, Done, Ask, Check}
-use Rattle.semantics.specs.Assemble.{attributes_of, is_asked, holds_first, holds_rest, ask_rest, ask_items, spliced, first_steps}
-use Rattle.semantics.specs.Pass.{pass, later_steps, symbol_pass}
-use Rattle.semantics.specs.Play.{Setting, State, run, eval_at, too_large}
+use Rattle.semantics.specs.Definitions.{Attributes}
+use Rattle.semantics.specs.Program.{Prog, Ask, Check}
+use Rattle.semantics.specs.Assemble.{attributes_of, is_asked, holds_first, holds_rest, ask_rest, ask_items, spliced}
+use Rattle.semantics.specs.Pass.{pass}
+use Rattle.semantics.specs.Play.{Setting, State}
 use Rattle.evaluation_steps.specs.declared.Halt.{Halt}
 use Rattle.evaluation_steps.specs.Leads.{Step}
-use Rattle.evaluation_steps.specs.Stopping.{AreBounded}
-use Rattle.evaluation_steps.specs.Words.{Evaluated, Settled, Played, Reached, Ran, Led, Counted, Fits}
+use Rattle.evaluation_steps.specs.Words.{Settled, Played, Reached, Led, Counted, Fits}
 use Rattle.evaluation_steps.specs.Passed.{Passed}
-use Rattle.evaluation_steps.proofs.Laws.{reached_here, reached_on, reached_ask, reached_look, reached_part, reached_check, led_here, led_on, led_ran, led_then, led_ask, led_check, ran_value, ran_check_out, played_done, passed_here, passed_on, settled_same, settled_large, settled_worn, settled_again_out, passed_again}
+use Rattle.evaluation_steps.proofs.Laws.{reached_here, reached_on, reached_look, reached_part, led_here, led_on, led_then, led_ask, led_check, ran_value, ran_check_out, settled_same, settled_large, settled_worn, settled_again_out, passed_again}
 use Rattle.eval_seq.specs.declared.ending.Ending.{Ending}
-use Rattle.eval_seq.specs.declared.assemble.Spliced.{Spliced}
-use Rattle.eval_seq.specs.Walks.{or_itself, Evaluates, Settles, Runs, PassOf, valued}
-use Rattle.eval_seq.specs.Sequence.{attributes_seen, one_asked, asking, firsts, spliced_of, Turned}
-use Rattle.eval_seq.proofs.Walking.{goes_on, evaluated_of, ran_of, runs_value, runs_halt, runs_err, runs_led, runs_ask, runs_ask_out, runs_then_out, settles_value, settles_halt, pass_on, pass_part_out}
+use Rattle.eval_seq.specs.Walks.{Evaluates, Settles, Runs, PassOf, valued}
+use Rattle.eval_seq.specs.Sequence.{attributes_seen, one_asked, asking, firsts, Turned}
+use Rattle.eval_seq.proofs.Walking.{goes_on, evaluated_of, ran_of, runs_value, runs_halt, runs_led, runs_ask, runs_ask_out, runs_then_out, settles_halt}
 
 rest_is : (names : Names) (a : Attributes) (es done : List Tree) (k : List Tree → Prog) → ask_rest names a es done k ≡ asking names a (holds_rest a) es done k
 rest_is names a [] done k = refl

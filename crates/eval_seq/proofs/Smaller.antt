@@ -1,7 +1,7 @@
 -- Stripping and sorting make nothing larger, and nothing deeper.
-use Rattle.std.proofs.Common.{◌≡◌, ℕ, ◌+◌, ◌≤◌, max, List, [], ◌∷◌, Bool, true, false, cond, Option, Some, None, refl, arith}
+use Rattle.std.proofs.Common.{◌≡◌, ◌+◌, ◌≤◌, max, List, [], ◌∷◌, Bool, true, false, cond, Option, Some, None, refl, arith}
 use Rattle.std.specs.Ordering.{is_le}
-use Rattle.expr_tree.specs.Tree.{Tree, Trees, integer, string, symbol, normal, nil, cons, trees, call, size, sizes, depth, depths}
+use Rattle.expr_tree.specs.Tree.{Tree, integer, string, symbol, normal, nil, cons, trees, size, sizes, depth, depths}
 use Rattle.expr_tree.specs.Order.{tree_cmp}
 use Rattle.semantics.specs.declared.builtin.Builtin.{Builtin}
 use Rattle.semantics.specs.Names.{Names, is_call}

@@ -1,9 +1,9 @@
 -- How the steps of a pass follow one another.
-use Rattle.std.proofs.Common.{◌≡◌, ◌∙◌, ℕ, suc, ◌+◌, ◌<◌, length, ◌≤◌, drop, get_or, drop-cons, arith, Bool, not, true, false, List, [], ◌∷◌, Option, Some, None, Result, Ok, Err, refl, sym, subst, ap}
+use Rattle.std.proofs.Common.{◌≡◌, ◌∙◌, ℕ, suc, ◌+◌, ◌<◌, length, ◌≤◌, drop, get_or, drop-cons, arith, not, true, false, List, [], ◌∷◌, Option, Some, None, Result, Ok, Err, refl, sym, subst, ap}
 use Rattle.std.specs.Result.{IsErrAnd}
 use Rattle.std.proofs.lemmas.List.{drop_all}
 use Rattle.expr_tree.specs.declared.sym.Sym.{Sym}
-use Rattle.expr_tree.specs.Tree.{Tree, symbol, normal, elements, trees, call}
+use Rattle.expr_tree.specs.Tree.{Tree, symbol, elements, trees, call}
 use Rattle.expr_tree.specs.Shapes.{symbol_of}
 use Rattle.semantics.specs.declared.builtin.Builtin.{Builtin}
 use Rattle.semantics.specs.Names.{Names, is_name, role_of}
@@ -17,16 +17,15 @@ use Rattle.semantics.specs.Scoping.{apply_function}
 use Rattle.semantics.specs.Sections.{unless_access}
 use Rattle.semantics.specs.Table.{row}
 use Rattle.semantics.specs.Pass.{symbol_rules, up_rules, down_rules, row_or_stay, built_in, last_steps, later_steps, left_standing, marked}
-use Rattle.semantics.specs.Play.{Setting, State, run, eval_at, seen, now_used}
+use Rattle.semantics.specs.Play.{Setting, State, run, eval_at, seen}
 use Rattle.evaluation_steps.specs.declared.Halt.{Halt}
 use Rattle.evaluation_steps.specs.Leads.{Step, Leads, here}
-use Rattle.evaluation_steps.specs.Words.{Reached, Played}
-use Rattle.evaluation_steps.proofs.Laws.{reached_here, reached_on, reached_look, reached_moded, reached_played, played_done, played_memory}
-use Rattle.shared_calls.specs.Access.{kind_in}
+use Rattle.evaluation_steps.specs.Words.{Reached}
+use Rattle.evaluation_steps.proofs.Laws.{reached_here, reached_on, played_done, played_memory}
 use Rattle.eval_seq.specs.declared.ending.Ending.{Ending}
 use Rattle.eval_seq.specs.declared.ending.Missing.{Missing}
 use Rattle.eval_seq.specs.Built.{is_built, is_plain}
-use Rattle.eval_seq.specs.Walks.{Met, PassOf, valued, halted, large, unbuilt, Stepped, SteppedBy, no_result, at_row, at_rules, at_function}
+use Rattle.eval_seq.specs.Walks.{PassOf, valued, halted, unbuilt, Stepped, no_result, at_row, at_rules, at_function}
 use Rattle.eval_seq.specs.Sequence.{Marks, Uses, Sees, stripped, last_of}
 use Rattle.expr_tree.proofs.Trees.{elements-trees}
 use Rattle.eval_seq.proofs.PlainRows.{plain_stays}

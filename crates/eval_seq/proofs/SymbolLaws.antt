@@ -1,5 +1,5 @@
 -- Passes over symbols, and uses of symbols that may be shared.
-use Rattle.std.proofs.Common.{◌≡◌, ◌∙◌, ℕ, Bool, true, false, List, Option, Some, None, Result, Ok, Err, refl, sym, subst, ap}
+use Rattle.std.proofs.Common.{◌≡◌, ◌∙◌, ℕ, Bool, true, false, Option, Some, None, Result, Ok, Err, refl, subst, ap}
 use Rattle.std.specs.Prelude.{pos}
 use Rattle.std.specs.Result.{IsErrAnd}
 use Rattle.expr_tree.specs.declared.sym.Sym.{Sym}

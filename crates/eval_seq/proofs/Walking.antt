@@ -1,19 +1,19 @@
 -- How the parts of an evaluation follow one another where it may come to something that is not built.
-use Rattle.std.proofs.Common.{◌≡◌, ℕ, zero, suc, ◌-◌, ◌<◌, sub-one, List, Option, Some, None, Result, Ok, Err, refl, sym, subst, arith}
+use Rattle.std.proofs.Common.{◌≡◌, ℕ, zero, suc, ◌-◌, ◌<◌, sub-one, List, Result, Ok, Err, refl, arith}
 use Rattle.std.specs.Result.{IsErrAnd}
 use Rattle.expr_tree.specs.Tree.{Tree}
 use Rattle.expr_tree.specs.declared.limits.Stop.{Stop}
 use Rattle.semantics.specs.Definitions.{Definitions}
-use Rattle.semantics.specs.Program.{Prog, Done, Ask, Local}
+use Rattle.semantics.specs.Program.{Prog, Ask, Local}
 use Rattle.semantics.specs.Pass.{pass}
-use Rattle.semantics.specs.Play.{Setting, State, End, Value, Stopped, Play, Over, ending, on_value, after, with_locals, without_locals, leaving_locals, run, passes, eval_at, too_large, judged}
+use Rattle.semantics.specs.Play.{Setting, State, End, Value, Stopped, Play, Over, ending, on_value, after, without_locals, leaving_locals, run, passes, eval_at, judged}
 use Rattle.evaluation_steps.specs.declared.Halt.{Halt}
-use Rattle.evaluation_steps.specs.Leads.{Step, Leads, Went, here}
-use Rattle.evaluation_steps.specs.Words.{Evaluated, Settled, Played, Reached, Ran, Led, Fits}
-use Rattle.evaluation_steps.proofs.Laws.{leads_on, ending_leads, went_on, went_out, went_after, went_locals, reached_played, played_memory, evaluated_out, evaluated_deep, settled_pass_out, settled_large, fits_some}
+use Rattle.evaluation_steps.specs.Leads.{Step, Leads, here}
+use Rattle.evaluation_steps.specs.Words.{Evaluated, Settled, Reached, Ran, Led}
+use Rattle.evaluation_steps.proofs.Laws.{leads_on, ending_leads, went_on, went_out, went_after, went_locals, reached_played, played_memory, evaluated_out, settled_pass_out, settled_large}
 use Rattle.eval_seq.specs.declared.ending.Ending.{Ending}
 use Rattle.eval_seq.specs.declared.ending.Missing.{Missing}
-use Rattle.eval_seq.specs.Walks.{halting, or_itself, Stands, in_part, Met, Goes, Evaluates, Settles, Runs, PassOf, valued, halted, large, unbuilt, Stepped, SteppedBy}
+use Rattle.eval_seq.specs.Walks.{halting, in_part, Met, Goes, Evaluates, Settles, Runs, PassOf, valued, halted, large, unbuilt}
 
 module _ {S : Type 0} {step : Step S} {set : Setting} where
   pub met_on : {s m z : S} {t u : Play} {b : Missing} → Leads step s t u m → Met step set m u b z → Met step set s t b z

@@ -1,8 +1,6 @@
 -- What the program keeps for modes, calls and replies.
 --     mode_of, call_of, reply_of
 --     Guarded               a step of an outside that may be called again afterwards
-use Rattle.expr_tree.specs.Tree.{Tree}
-use Rattle.semantics.specs.Definitions.{Definitions}
 use Rattle.semantics.specs.Program as p
 use Rattle.semantics.specs.Play as y
 use Rattle.eval_seq.specs.declared.outward.Mode.{Mode}

@@ -1,4 +1,4 @@
-use Rattle.std.proofs.Common.{arith, drop, get_or, length, ◌≡◌, ◌<◌}
+use Rattle.std.proofs.Common.{◌≡◌}
 use Rattle.semantics.specs.declared.builtin.Builtin.{Builtin}
 use Rattle.semantics.specs.Names.{make}
 use Rattle.semantics.specs.Program.{Done}

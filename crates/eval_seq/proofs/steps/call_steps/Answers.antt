@@ -1,4 +1,4 @@
-use Rattle.std.proofs.Common.{sym, ◌∙◌}
+use Rattle.std.proofs.Common.{◌∙◌}
 use Rattle.builtin_names.specs.Attributes.{attributes_in}
 use Rattle.builtin_names.proofs.Flags.{has_hold_all_complete}
 use Rattle.eval_seq.proofs.StepLaws.{steps_held, steps_free, steps_free_out, stepped_err}

@@ -1,4 +1,3 @@
-use Rattle.std.proofs.Common.{refl, sym, ◌∙◌}
 use Rattle.std.specs.Prelude.{unwrap_or}
 use Rattle.semantics.specs.Program.{Done}
 use Rattle.eval_seq.proofs.StepLaws.{finish_value, finish_out, finish_stays}

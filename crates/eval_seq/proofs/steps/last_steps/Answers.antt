@@ -1,4 +1,4 @@
-use Rattle.std.proofs.Common.{rules, sym, ◌∙◌, ◌≡◌}
+use Rattle.std.proofs.Common.{rules, ◌≡◌}
 use Rattle.expr_tree.specs.Tree.{integer, string, symbol, normal, trees}
 use Rattle.builtin_names.specs.Attributes.{attributes_in}
 use Rattle.eval_seq.proofs.StepLaws.{stepped_here, stepped_last}

@@ -1,4 +1,4 @@
-use Rattle.std.proofs.Common.{refl, sym, ◌∙◌, Ok, Err}
+use Rattle.std.proofs.Common.{Ok, Err}
 use Rattle.std.specs.Prelude.{unwrap_or}
 use Rattle.builtin_names.specs.Attributes.{attributes_in}
 use Rattle.eval_seq.proofs.Walking.{pass_lost}
