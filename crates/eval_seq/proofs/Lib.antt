@@ -1,0 +1,10 @@
+pub mod PlainRows
+pub mod Walking
+pub mod Smaller
+pub mod Answered
+pub mod Fitting
+pub mod Marking
+pub mod SymbolLaws
+pub mod StepLaws
+pub mod SequenceLaws
+pub mod Readiness

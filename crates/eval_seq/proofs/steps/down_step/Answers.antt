@@ -1,0 +1,29 @@
+use Rattle.std.proofs.Common.{rules, sym, ◌∙◌, ◌≡◌}
+use Rattle.expr_tree.specs.Tree.{integer, string, symbol, normal, trees}
+use Rattle.eval_seq.proofs.StepLaws.{down_function, down_other, stepped_here}
+use Rattle.eval_seq.proofs.steps.down_step.Goals as goal
+
+pub returns-then-is_name : goal.returns-then-is_name
+returns-then-is_name g c =
+    λ n. let e : c.args.head.now ≡ normal c.in-Normal.inner.value (trees c.in-Normal.field-1) = search rules in
+    rw e (down_function c.in-Normal.inner.value c.in-Normal.field-1 c.args.items.now c.args.whole.now (rw c.deref.ensures at (sym c.is_name.ensures ∙ c.if-is_name.true)))
+
+pub returns-in-Symbol : goal.returns-in-Symbol
+returns-in-Symbol g c =
+    λ n. let e : c.args.head.now ≡ symbol c.in-Symbol.symbol = search rules in
+    rw e (c.head_step.ensures n)
+
+pub returns-else-is_name : goal.returns-else-is_name
+returns-else-is_name g c =
+    λ n. let e : c.args.head.now ≡ normal c.in-Normal.inner.value (trees c.in-Normal.field-1) = search rules in
+    rw e (down_other c.in-Normal.inner.value c.in-Normal.field-1 c.args.items.now c.args.whole.now (rw c.deref.ensures at (sym c.is_name.ensures ∙ c.if-is_name.false)))
+
+pub returns-in-Int : goal.returns-in-Int
+returns-in-Int g c =
+    λ n. let e : c.args.head.now ≡ integer c.in-Int.field-0 = search rules in
+    rw e stepped_here
+
+pub returns-in-Str : goal.returns-in-Str
+returns-in-Str g c =
+    λ n. let e : c.args.head.now ≡ string c.in-Str.field-0 = search rules in
+    rw e stepped_here

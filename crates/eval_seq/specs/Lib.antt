@@ -1,0 +1,6 @@
+pub mod Defined
+pub mod Outward
+pub mod Setup
+pub mod Built
+pub mod Walks
+pub mod Sequence

@@ -1,0 +1,106 @@
+-- The parts of a pass as the functions of the evaluator go through them.
+--     attributes_seen       the attributes of a head
+--     one_asked, asking     an element; the elements that are left
+--     firsts, spliced_of    head, elements and splicing, and what they give on
+--     AssembledBy           the call after stripping, flattening, threading and sorting
+--     last_of               the steps after them
+--     Answers, AnswersOr    the end of a program that asks nothing
+--     Marks                 a use of a symbol that may be shared
+use Rattle.std.specs.Prelude.{◌≡◌, ◌⊎◌, ◌<◌, ◌≤◌, ◌-◌, ℕ, List, [], ◌∷◌, ◌++◌, Bool, true, false, Option, Some, None, Result, Ok, Err, unwrap_or}
+use Rattle.expr_tree.specs.declared.sym.Sym.{Sym}
+use Rattle.expr_tree.specs.declared.limits.Limits.{Limits}
+use Rattle.expr_tree.specs.Tree.{Tree, symbol, normal, elements, call, size, depth}
+use Rattle.semantics.specs.declared.builtin.Builtin.{Builtin}
+use Rattle.semantics.specs.Names.{Names}
+use Rattle.semantics.specs.Steps.{strip}
+use Rattle.semantics.specs.Definitions.{Definitions, Attributes, Share, definition_of, has}
+use Rattle.semantics.specs.Program.{Prog, Done, Ask, Look, Outer, Access, Seen, Mode, Cell, Item, Service}
+use Rattle.semantics.specs.Assemble.{is_asked, ask_rest, first_steps, flattened, threaded, sorted}
+use Rattle.semantics.specs.Sections.{access_or}
+use Rattle.semantics.specs.Pass.{last_steps, left_standing, marked}
+use Rattle.semantics.specs.Play.{Setting, State, Evaluator, run, seen, too_large}
+use Rattle.builtin_names.specs.Attributes.{attributes_in}
+use Rattle.evaluation_steps.specs.Leads.{Step}
+use Rattle.evaluation_steps.specs.Words.{Settled}
+use Rattle.evaluation_steps.specs.Passed.{Passed}
+use Rattle.evaluation_steps.specs.Moves.{Shows, HasStopped}
+use Rattle.evaluation_steps.specs.declared.Halt.{Halt}
+use Rattle.eval_seq.specs.Walks.{Settles}
+use Rattle.eval_seq.specs.declared.ending.Ending.{Ending}
+use Rattle.eval_seq.specs.declared.assemble.Spliced.{Spliced}
+use Rattle.eval_seq.specs.declared.assemble.Assembled.{Assembled}
+
+abbrev pub attributes_seen : Names → Definitions → Tree → Attributes
+attributes_seen names d (symbol s) = (definition_of names d s).attributes
+attributes_seen names d _ = []
+
+abbrev pub one_asked : Names → Attributes → Bool → Tree → (Tree → Prog) → Prog
+one_asked names a held e k = elim (is_asked names a held e) [ true ↦ Ask e k | false ↦ k e ]
+
+-- `held` is said of the first of them
+abbrev pub asking : Names → Attributes → Bool → List Tree → List Tree → (List Tree → Prog) → Prog
+asking names a held [] done k = k done
+asking names a held (e ∷ es) done k =
+    elim (is_asked names a held e) [ true ↦ Ask e (λ v. ask_rest names a es (done ++ v ∷ []) k) | false ↦ ask_rest names a es (done ++ e ∷ []) k ]
+
+abbrev pub firsts : Names → Tree → List Tree → (Tree × Attributes × List Tree → Prog) → Prog
+firsts names h items k = first_steps names h items (λ head a es. k (head, a, es))
+
+abbrev pub spliced_of : Result Spliced Ending → Result (Tree × Attributes × List Tree) Ending
+spliced_of (Ok s) = Ok (s.head, attributes_in s.attrs, s.items)
+spliced_of (Err x) = Err x
+
+abbrev pub stripped : Names → Attributes → List Tree → List Tree
+stripped names a items = elim (has Builtin.HoldAllComplete a) [ true ↦ items | false ↦ strip names items ]
+
+abbrev pub AssembledBy : Names → Tree → Attributes → List Tree → Assembled → Type 0
+AssembledBy names head a items (Assembled.Threaded each) = threaded names head a (flattened head a (stripped names a items)) ≡ Some each
+AssembledBy names head a items (Assembled.Call whole standing) =
+    (threaded names head a (flattened head a (stripped names a items)) ≡ None)
+    × (whole ≡ call head (sorted a (flattened head a (stripped names a items))))
+    × (unwrap_or standing whole ≡ left_standing names a head items whole)
+
+abbrev pub last_of : Names → Attributes → Tree → Prog → Prog
+last_of names a (normal h es) rest = last_steps names a (elements es) (normal h es) rest h
+last_of names a _ rest = rest
+
+abbrev pub AnswersBy : Limits → Prog → Result Tree Halt → Type 0
+AnswersBy limits p (Ok v) = Shows limits p (Done v)
+AnswersBy limits p (Err (Halt.Stopped c)) = HasStopped limits p c ⊎ ((v : Tree) × Shows limits p (Done v) × (too_large limits v ≡ Some c))
+AnswersBy limits p (Err Halt.Quit) = ⊥
+AnswersBy limits p (Err Halt.Closed) = ⊥
+AnswersBy limits p (Err Halt.NoMemory) = Unit {0}
+
+pub record Answers (limits : Limits) (p : Prog) (r : Result Tree Halt) : Type 0 where
+  pub by : AnswersBy limits p r
+
+abbrev pub is_item : Mode → Bool
+is_item Item = true
+is_item Cell = false
+is_item Service = false
+
+pub record Marks (set : Setting) (kind : Share) (s : Sym) (st : State) (sent : Bool) (st' : State) : Type 0 where
+  pub by : (ev : Evaluator) (e : Tree) (q : Seen → Prog) →
+      run set ev (Look s (λ it. access_or it.shared kind e (marked it.shared (q it)))) st
+      ≡ run set ev (elim sent [ true ↦ Outer (Access e) Done | false ↦ q (seen set.names st.definitions s) ]) st'
+
+-- `access` leads to an access that is sent, or to what follows it
+pub record Uses (set : Setting) (access : Tree → Prog → Prog) (st : State) (sent : Bool) (st' : State) : Type 0 where
+  pub by : (ev : Evaluator) (e : Tree) (p : Prog) → run set ev (access e p) st ≡ run set ev (elim sent [ true ↦ Outer (Access e) Done | false ↦ p ]) st'
+
+-- a look at a symbol, whose use is marked
+pub record Sees (set : Setting) (s : Sym) (st st' : State) : Type 0 where
+  pub by : (ev : Evaluator) (q : Seen → Prog) → run set ev (Look s (λ it. marked it.shared (q it))) st ≡ run set ev (q (seen set.names st.definitions s)) st'
+
+pub record Within (head : Tree) (items : List Tree) : Type 0 where
+  pub small : size (call head items) ≤ 4000000
+  pub shallow : depth (call head items) ≤ 512
+
+-- one pass, and whether its value goes on
+abbrev pub TurnedBy : {S : Type 0} → Step S → Setting → ℕ → ℕ → Tree → S → State → Result (Option Tree) Ending → State → S → Type 0
+TurnedBy step set n m e s st (Ok None) st' z = Settled step set n m e s st (Ok e) st' z
+TurnedBy step set n m e s st (Ok (Some v)) st' z = (0 < m) × Passed step set n m e s st (m - 1) v st' z
+TurnedBy step set n m e s st (Err x) st' z = Settles step set n m e s st (Err x) st' z
+
+pub record Turned {S : Type 0} (step : Step S) (set : Setting) (n m : ℕ) (e : Tree) (s : S) (st : State) (r : Result (Option Tree) Ending) (st' : State) (z : S) : Type 0 where
+  pub by : TurnedBy step set n m e s st r st' z

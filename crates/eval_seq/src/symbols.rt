@@ -1,0 +1,147 @@
+//! Symbols: their attributes and values, and whether a use of one is an access of a shared symbol.
+ghost use Rattle.std.specs.Prelude.{◌≡◌, ℕ};
+ghost use Rattle.expr_tree.specs.Tree.{symbol};
+ghost use Rattle.semantics.specs.Program as p;
+ghost use Rattle.semantics.specs.Program.{Outer, Access, Done};
+ghost use Rattle.semantics.specs.Pass.{symbol_pass, symbol_row};
+ghost use Rattle.semantics.specs.Sections.{unless_access};
+ghost use Rattle.builtin_names.specs.Attributes.{attributes_in};
+ghost use Rattle.builtin_names.specs.Named.{HasBuiltins, names_in};
+ghost use Rattle.shared_calls.specs.View.{share_of};
+ghost use Rattle.eval_seq.specs.Defined.{defs_in};
+ghost use Rattle.eval_seq.specs.Outward.{Guarded, mode_of};
+ghost use Rattle.eval_seq.specs.Setup.{setting_of, state_of};
+ghost use Rattle.eval_seq.specs.Walks.{or_itself, PassOf};
+ghost use Rattle.eval_seq.specs.Sequence.{attributes_seen, is_item, Marks, Uses};
+
+use crate::context::{Going, Scene};
+use crate::defs::Defs;
+use crate::effects::outward;
+use crate::ending::Ending;
+use crate::outward::{Mode, Upcall, Want};
+use builtin_names::is_known;
+use expr_tree::{Attrs, Expr, Node, Sym};
+use name_table::Names;
+use semantics::Builtin;
+use shared_calls::{ShareKind, accesses_are_sent};
+
+/// The attributes of a head.
+pub(crate) fn attrs_under(names: &Names, defs: &Defs, head: &Expr) -> Attrs
+    requires names { HasBuiltins names.now }
+    ensures { attributes_in result ≡ attributes_seen (names_in names.now) (defs_in defs.now) head.now }
+{
+    match head.node() {
+        Node::Symbol(symbol) => defs.attrs_of(names, *symbol),
+        _ => Attrs::none(),
+    }
+}
+
+fn is_item(mode: Mode) -> bool
+    ensures { result ≡ is_item (mode_of mode) }
+{
+    match mode {
+        Mode::Cell => false,
+        Mode::Item => true,
+        Mode::Service => false,
+    }
+}
+
+/// Looks at a symbol, and says whether this use of it is sent outward.
+#[tactic(auto, using(crate::proofs::Marking::marks_steps))]
+pub(crate) fn marks(
+    scene: &Scene,
+    defs: &Defs,
+    going: &mut Going,
+    kind: ShareKind,
+    symbol: Sym,
+) -> bool
+    ensures { Marks (setting_of scene.now) (share_of kind) symbol (state_of (defs_in defs.now) going.old) result (state_of (defs_in defs.now) going.new) }
+{
+    let Some(found) = defs.kind_of(symbol) else {
+        return false;
+    };
+    going.used = true;
+    found.is(kind) && is_item(scene.mode)
+}
+
+/// Whether a row that changes a shared symbol is sent outward.
+#[tactic(auto, using(crate::proofs::Marking::uses_steps))]
+pub(crate) fn changes(
+    scene: &Scene,
+    defs: &Defs,
+    going: &mut Going,
+    row: Sym,
+    items: &[Expr],
+) -> bool
+    ensures { Uses (setting_of scene.now) (λ e p. unless_access (names_in scene.now.names.now) (symbol row) items.now e p) (state_of (defs_in defs.now) going.old) result (state_of (defs_in defs.now) going.new) }
+{
+    accesses_are_sent();
+    if defs.changed(scene.names, row, items).is_none() {
+        return false;
+    }
+    going.used = true;
+    is_item(scene.mode)
+}
+
+/// Sends an access.
+pub(crate) fn send_access<U: Upcall>(
+    _scene: &Scene,
+    defs: &mut Defs,
+    up: &mut U,
+    going: &Going,
+    e: Expr,
+) -> Result<Expr, Ending>
+    requires { U.ready up.old }
+    ensures { (n : ℕ) → PassOf (Guarded U.step U.ready) (setting_of _scene.now) n (Outer (Access e) Done) up.old (state_of (defs_in defs.old) going.now) result (state_of (defs_in defs.new) going.now) up.new }
+{
+    match outward(defs, up, going, Want::Access(e)) {
+        Ok(v) => Ok(v),
+        Err(halt) => Err(Ending::Halt(halt)),
+    }
+}
+
+/// The row of a symbol alone.
+fn symbol_row<U: Upcall>(
+    scene: &Scene,
+    defs: &mut Defs,
+    up: &mut U,
+    going: &mut Going,
+    symbol: Sym,
+) -> Result<Option<Expr>, Ending>
+    requires { U.ready up.old }
+    ensures { (n : ℕ) → PassOf (Guarded U.step U.ready) (setting_of scene.now) n (symbol_row (names_in scene.now.names.now) symbol) up.old (state_of (defs_in defs.old) going.old) (or_itself (Rattle.expr_tree.specs.Tree.symbol symbol) result) (state_of (defs_in defs.new) going.new) up.new }
+{
+    if is_known(scene.names, Builtin::KernelID, symbol) {
+        going.used = true;
+        return Ok(Some(Expr::int(scene.kernel as i128)));
+    }
+    if is_known(scene.names, Builtin::KernelCount, symbol) {
+        going.used = true;
+        return match outward(defs, up, going, Want::Count) {
+            Ok(v) => Ok(Some(v)),
+            Err(halt) => Err(Ending::Halt(halt)),
+        };
+    }
+    Ok(None)
+}
+
+/// One pass over a symbol.
+pub(crate) fn own<U: Upcall>(
+    scene: &Scene,
+    defs: &mut Defs,
+    up: &mut U,
+    going: &mut Going,
+    symbol: Sym,
+) -> Result<Option<Expr>, Ending>
+    requires { U.ready up.old }
+    ensures { (n : ℕ) → PassOf (Guarded U.step U.ready) (setting_of scene.now) n (symbol_pass (names_in scene.now.names.now) symbol) up.old (state_of (defs_in defs.old) going.old) (or_itself (Rattle.expr_tree.specs.Tree.symbol symbol) result) (state_of (defs_in defs.new) going.new) up.new }
+{
+    if marks(scene, defs, going, ShareKind::Variable, symbol) {
+        let value = send_access(scene, defs, up, going, Expr::symbol(symbol))?;
+        return Ok(Some(value));
+    }
+    if let Some(value) = defs.own_of(symbol) {
+        return Ok(Some(value.copy(scene.alloc)?));
+    }
+    symbol_row(scene, defs, up, going, symbol)
+}
