@@ -1,7 +1,11 @@
 ghost use Rattle.std.specs.Prelude.{◌≡◌};
 ghost use Rattle.input_form.specs.Shapes.{as_pair, as_chain, as_mark, as_form};
-ghost use Rattle.syntax.specs.Shapes.{pair_sign, pair_left, pair_right, pair_level, chain_sign, chain_part, chain_level, mark_sign};
+ghost use Rattle.operator_levels.specs.Words.{operator_in};
+ghost use Rattle.operator_levels.specs.Shown.{shape_shown};
+ghost use Rattle.syntax.specs.Shapes.{Pairs, Chains, pair_sign, pair_left, pair_right, pair_level, chain_sign, chain_part, chain_level, mark_sign};
 ghost use Rattle.syntax.specs.Input.{form_level};
+
+use operator_levels::{Operator, shown_left, shown_level, shown_right, sign};
 
 /// An operator between two operands.
 #[derive(Clone, Copy, Debug)]
@@ -77,136 +81,93 @@ pub(crate) enum Form {
     Chained(Chain),
 }
 
+/// The operator that is shown.
+#[tactic(auto, unfolding(syntax::specs::Operators::gives_of, syntax::specs::Operators::infix_row))]
+fn operator_of(pair: Pair) -> Operator
+    ensures { shape_shown (operator_in result) ≡ Pairs (as_pair pair) }
+{
+    match pair {
+        Pair::PatternTest => Operator::PatternTest,
+        Pair::Power => Operator::Power,
+        Pair::Condition => Operator::Condition,
+        Pair::Rule => Operator::Rule,
+        Pair::RuleDelayed => Operator::RuleDelayed,
+        Pair::ReplaceAll => Operator::ReplaceAll,
+        Pair::ReplaceRepeated => Operator::ReplaceRepeated,
+        Pair::Set => Operator::Set,
+        Pair::SetDelayed => Operator::SetDelayed,
+        Pair::Naming => Operator::Pattern,
+    }
+}
+
+/// The operator that stands between the operands of a chain.
+#[tactic(auto, unfolding(syntax::specs::Operators::gives_of, syntax::specs::Operators::infix_row))]
+fn operator_between(chain: Chain) -> Operator
+    ensures { shape_shown (operator_in result) ≡ Chains (as_chain chain) }
+{
+    match chain {
+        Chain::Equal => Operator::Equal,
+        Chain::Unequal => Operator::Unequal,
+        Chain::Less => Operator::Less,
+        Chain::LessEqual => Operator::LessEqual,
+        Chain::Greater => Operator::Greater,
+        Chain::GreaterEqual => Operator::GreaterEqual,
+        Chain::SameQ => Operator::SameQ,
+        Chain::UnsameQ => Operator::UnsameQ,
+        Chain::And => Operator::And,
+        Chain::Or => Operator::Or,
+        Chain::Alternatives => Operator::Alternatives,
+        Chain::CompoundExpression => Operator::CompoundExpression,
+    }
+}
+
 /// The sign of an operator.
 pub(crate) fn pair_sign(pair: Pair) -> &'static str
     ensures { result.now ≡ pair_sign (as_pair pair) }
 {
-    match pair {
-        Pair::PatternTest => "?",
-        Pair::Power => "^",
-        Pair::Condition => " /; ",
-        Pair::Rule => " -> ",
-        Pair::RuleDelayed => " :> ",
-        Pair::ReplaceAll => " /. ",
-        Pair::ReplaceRepeated => " //. ",
-        Pair::Set => " = ",
-        Pair::SetDelayed => " := ",
-        Pair::Naming => ":",
-    }
+    sign(operator_of(pair))
 }
 
 /// The level asked of the left operand.
 pub(crate) fn pair_left(pair: Pair) -> u32
     ensures { result ≡ pair_left (as_pair pair) }
 {
-    match pair {
-        Pair::PatternTest => 26,
-        Pair::Power => 22,
-        Pair::Condition => 9,
-        Pair::Rule => 9,
-        Pair::RuleDelayed => 9,
-        Pair::ReplaceAll => 7,
-        Pair::ReplaceRepeated => 7,
-        Pair::Set => 4,
-        Pair::SetDelayed => 4,
-        Pair::Naming => 27,
-    }
+    shown_left(operator_of(pair))
 }
 
 /// The level asked of the right operand.
 pub(crate) fn pair_right(pair: Pair) -> u32
     ensures { result ≡ pair_right (as_pair pair) }
 {
-    match pair {
-        Pair::PatternTest => 27,
-        Pair::Power => 21,
-        Pair::Condition => 10,
-        Pair::Rule => 8,
-        Pair::RuleDelayed => 8,
-        Pair::ReplaceAll => 8,
-        Pair::ReplaceRepeated => 8,
-        Pair::Set => 3,
-        Pair::SetDelayed => 3,
-        Pair::Naming => 11,
-    }
+    shown_right(operator_of(pair))
 }
 
 /// The level of the whole.
 pub(crate) fn pair_level(pair: Pair) -> u32
     ensures { result ≡ pair_level (as_pair pair) }
 {
-    match pair {
-        Pair::PatternTest => 26,
-        Pair::Power => 21,
-        Pair::Condition => 9,
-        Pair::Rule => 8,
-        Pair::RuleDelayed => 8,
-        Pair::ReplaceAll => 7,
-        Pair::ReplaceRepeated => 7,
-        Pair::Set => 3,
-        Pair::SetDelayed => 3,
-        Pair::Naming => 10,
-    }
+    shown_level(operator_of(pair))
 }
 
 /// The sign of an operator.
 pub(crate) fn chain_sign(chain: Chain) -> &'static str
     ensures { result.now ≡ chain_sign (as_chain chain) }
 {
-    match chain {
-        Chain::Equal => " == ",
-        Chain::Unequal => " != ",
-        Chain::Less => " < ",
-        Chain::LessEqual => " <= ",
-        Chain::Greater => " > ",
-        Chain::GreaterEqual => " >= ",
-        Chain::SameQ => " === ",
-        Chain::UnsameQ => " =!= ",
-        Chain::And => " && ",
-        Chain::Or => " || ",
-        Chain::Alternatives => " | ",
-        Chain::CompoundExpression => "; ",
-    }
+    sign(operator_between(chain))
 }
 
 /// The level asked of each operand.
 pub(crate) fn chain_part(chain: Chain) -> u32
     ensures { result ≡ chain_part (as_chain chain) }
 {
-    match chain {
-        Chain::Equal => 17,
-        Chain::Unequal => 17,
-        Chain::Less => 17,
-        Chain::LessEqual => 17,
-        Chain::Greater => 17,
-        Chain::GreaterEqual => 17,
-        Chain::SameQ => 16,
-        Chain::UnsameQ => 16,
-        Chain::And => 14,
-        Chain::Or => 13,
-        Chain::Alternatives => 12,
-        Chain::CompoundExpression => 3,
-    }
+    shown_left(operator_between(chain))
 }
 
 /// The level of the whole.
 pub(crate) fn chain_level(chain: Chain) -> u32
     ensures { result ≡ chain_level (as_chain chain) }
 {
-    match chain {
-        Chain::Equal => 16,
-        Chain::Unequal => 16,
-        Chain::Less => 16,
-        Chain::LessEqual => 16,
-        Chain::Greater => 16,
-        Chain::GreaterEqual => 16,
-        Chain::SameQ => 15,
-        Chain::UnsameQ => 15,
-        Chain::And => 13,
-        Chain::Or => 12,
-        Chain::Alternatives => 11,
-        Chain::CompoundExpression => 2,
-    }
+    shown_level(operator_between(chain))
 }
 
 /// The sign in front.

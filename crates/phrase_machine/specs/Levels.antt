@@ -6,7 +6,8 @@
 --     tighter               whether it is closed by an operator at the level
 use Rattle.std.specs.Prelude.{ℕ, Bool, true, false, nat_lt, ◌&&◌, List, [], ◌∷◌, Option, Some, None}
 use Rattle.syntax.specs.Operators as syn
-use Rattle.phrase_machine.specs.Words.{operator_in, prefix_in}
+use Rattle.operator_levels.specs.Words.{operator_in}
+use Rattle.phrase_machine.specs.Words.{prefix_in}
 use Rattle.phrase_machine.specs.declared.frame.Frame.{Frame}
 use Rattle.phrase_machine.specs.declared.frame.Frame.TheVariants as fr
 

@@ -6,7 +6,8 @@ use Rattle.expr_tree.specs.Tree.{Tree}
 use Rattle.semantics.specs.Names.{Names}
 use Rattle.reading_laws.specs.Kept as low
 use Rattle.syntax.proofs.Reader as r
-use Rattle.phrase_machine.specs.Words.{operator_in, prefix_in}
+use Rattle.operator_levels.specs.Words.{operator_in}
+use Rattle.phrase_machine.specs.Words.{prefix_in}
 use Rattle.phrase_machine.specs.Held.{kept_in}
 use Rattle.phrase_machine.specs.declared.frame.Opened.{Opened}
 use Rattle.phrase_machine.specs.declared.frame.Opened.TheVariants as og

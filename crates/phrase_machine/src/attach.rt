@@ -4,14 +4,15 @@ ghost use Rattle.semantics.specs.Names as n;
 ghost use Rattle.phrase_machine.specs.Held.{kept_in};
 ghost use Rattle.phrase_machine.specs.States.{frames_in, after};
 ghost use Rattle.phrase_machine.specs.Steps as s;
-ghost use Rattle.phrase_machine.specs.Words.{operator_in};
+ghost use Rattle.operator_levels.specs.Words.{operator_in};
 
 use crate::begin::enter;
 use crate::constructs::accepts;
 use crate::frame::{Frame, Mode};
 use crate::kept::Kept;
-use crate::operator::{Operator, level, tag_row};
+use crate::operator::tag_row;
 use crate::stack::Stack;
+use operator_levels::{Operator, level};
 use std::alloc::AllocError;
 
 /// An operator is attached to its left operand.

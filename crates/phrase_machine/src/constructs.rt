@@ -5,7 +5,8 @@ ghost use Rattle.syntax.specs.Phrases.{is_comparison, is_sameness, of_one_kind, 
 ghost use Rattle.builtin_names.specs.Named.{HasBuiltins, names_in};
 ghost use Rattle.reading_laws.specs.Kept as low;
 ghost use Rattle.phrase_machine.specs.Held.{kept_in};
-ghost use Rattle.phrase_machine.specs.Words.{gives_in, operator_in, prefix_in, postfix_in, kind_in};
+ghost use Rattle.operator_levels.specs.Words.{gives_in, operator_in};
+ghost use Rattle.phrase_machine.specs.Words.{prefix_in, postfix_in, kind_in};
 
 use crate::chain::{chained, is_same};
 use crate::elements::{
@@ -13,11 +14,12 @@ use crate::elements::{
 };
 use crate::kept::Kept;
 use crate::negation::negated;
-use crate::operator::{Gives, Operator, Postfix, Prefix, result_of};
+use crate::operator::{Postfix, Prefix};
 use crate::terminal::PhraseKind;
 use builtin_names::name;
 use expr_tree::{Expr, Exprs};
 use name_table::Names;
+use operator_levels::{Gives, Operator, result_of};
 use semantics::Builtin;
 use std::alloc::{AllocError, Global};
 

@@ -15,13 +15,14 @@ use crate::constructs::{ended, trail};
 use crate::frame::{Frame, Mode, Opened};
 use crate::kept::Kept;
 use crate::next::{Bracket, Next, next_of};
-use crate::operator::{Operator, level, trail_level};
+use crate::operator::trail_level;
 use crate::reduce::reduce;
 use crate::stack::Stack;
 use crate::terminal::Terminal;
 use expr_tree::Exprs;
 use item_list::Items;
 use name_table::Names;
+use operator_levels::{Operator, level};
 use std::alloc::{AllocError, Global};
 
 /// The level at which a terminal behind a phrase binds.

@@ -3,8 +3,9 @@ ghost use Rattle.std.specs.Prelude.{◌≡◌};
 ghost use Rattle.phrase_machine.specs.Levels.{asked_by, needs_none};
 
 use crate::kept::Kept;
-use crate::operator::{Operator, Prefix, lead_level, right_level};
+use crate::operator::{Prefix, lead_level};
 use expr_tree::{Expr, Exprs};
+use operator_levels::{Operator, right_level};
 use semantics::Builtin;
 
 /// What a bracket opened: a list, the elements of a call, or those of a part.

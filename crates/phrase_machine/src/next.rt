@@ -3,9 +3,10 @@ ghost use Rattle.syntax.specs.Terminals.{sign_next, next_of};
 ghost use Rattle.case_table.specs.Entries.{language_sign};
 ghost use Rattle.phrase_machine.specs.Words.{next_in, terminal_in};
 
-use crate::operator::{Operator, Postfix};
+use crate::operator::Postfix;
 use crate::terminal::{Terminal, Word};
 use case_table::Sign;
+use operator_levels::Operator;
 
 /// A kind of brackets.
 #[derive(Clone, Copy)]

@@ -9,9 +9,9 @@ ghost use Rattle.phrase_machine.specs.Steps as s;
 use crate::constructs::{join, lead, tagged};
 use crate::frame::Frame;
 use crate::kept::Kept;
-use crate::operator::Operator;
 use crate::stack::Stack;
 use name_table::Names;
+use operator_levels::Operator;
 use std::alloc::{AllocError, Global};
 
 /// What a frame that needs no further token makes of its last operand.

@@ -2,7 +2,7 @@ use Rattle.std.proofs.Common.{List, sym, ap, ◌∙◌}
 use Rattle.phrase_machine.specs.Held.{kept_in}
 use Rattle.phrase_machine.specs.States.{frames_in}
 use Rattle.phrase_machine.specs.Steps as s
-use Rattle.phrase_machine.specs.Words.{operator_in}
+use Rattle.operator_levels.specs.Words.{operator_in}
 use Rattle.phrase_machine.specs.declared.frame.Frame.{Frame}
 use Rattle.phrase_machine.proofs.Frames.{joined_plain}
 use Rattle.phrase_machine.proofs.attach.join_operator.Goals as goal
