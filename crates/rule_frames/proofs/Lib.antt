@@ -1,0 +1,7 @@
+mod Telling
+pub mod Shown
+mod Agreeing
+mod Asked
+mod Trying
+pub mod Falling
+pub mod Laws

@@ -1,0 +1,5 @@
+pub mod Reading
+pub mod Rules
+pub mod Told
+pub mod Trials
+pub mod Worst
