@@ -57,7 +57,7 @@ question_falls e false k s plain v = let on = shows_no_more s plain in let one =
 is_true : (names : Names) → is_name names Builtin.True (name names Builtin.True) ≡ true
 is_true names = eq-eqb (names.place Builtin.True) (names.place Builtin.True) refl
 
-both_plain : (names : Names) (p q : Prog) (b : Bool) → Plain names p → Plain names q → Plain names (elim b as (λ _. Prog) [ true ↦ p | false ↦ q ])
+pub both_plain : (names : Names) (p q : Prog) (b : Bool) → Plain names p → Plain names q → Plain names (elim b as (λ _. Prog) [ true ↦ p | false ↦ q ])
 both_plain names p q true a b = a
 both_plain names p q false a b = b
 
@@ -75,7 +75,7 @@ truth_bound names p q v =
 pub ask_plain : (names : Names) (c : Tree) (p q : Prog) → Plain names p → Plain names q → Plain names (Ask c (λ v. elim (is_name names Builtin.True v) as (λ _. Prog) [ true ↦ p | false ↦ q ]))
 ask_plain names c p q a b = (truth_bound names p q, λ v. both_plain names p q (is_name names Builtin.True v) a b)
 
-guards_plain : (names : Names) (b : Binding) (gs : List Guard) (pass fail : Prog) → Plain names pass → Plain names fail → Plain names (try_guards names b gs pass fail)
+pub guards_plain : (names : Names) (b : Binding) (gs : List Guard) (pass fail : Prog) → Plain names pass → Plain names fail → Plain names (try_guards names b gs pass fail)
 guards_plain names b [] pass fail x y = x
 guards_plain names b (g ∷ gs) pass fail x y = ask_plain names (guard_expression names b g) (try_guards names b gs pass fail) fail (guards_plain names b gs pass fail x y) y
 
@@ -83,7 +83,7 @@ binding_plain : (names : Names) (b : Binding) (gs : List Guard) (pass fail : Pro
 binding_plain names b [] pass fail x y = x
 binding_plain names b (g ∷ gs) pass fail x y = ask_plain names (guard_expression names b g) (try_guards names b gs pass fail) fail (guards_plain names b gs pass fail x y) y
 
-bindings_plain : (names : Names) (right : Tree) (fs : List Found) (gives : Tree → Prog) (otherwise : Prog) → ((v : Tree) → Plain names (gives v)) → Plain names otherwise → Plain names (try_bindings names right fs gives otherwise)
+pub bindings_plain : (names : Names) (right : Tree) (fs : List Found) (gives : Tree → Prog) (otherwise : Prog) → ((v : Tree) → Plain names (gives v)) → Plain names otherwise → Plain names (try_bindings names right fs gives otherwise)
 bindings_plain names right [] gives otherwise x y = y
 bindings_plain names right (f ∷ fs) gives otherwise x y =
     binding_plain names f.binding (f.guards ++ map Cond (condition_of names right)) (gives (put_in_place names f.binding (result_of names right)))

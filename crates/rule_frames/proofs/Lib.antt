@@ -5,3 +5,4 @@ mod Asked
 mod Trying
 pub mod Falling
 pub mod Laws
+pub mod Questions

@@ -1,3 +1,4 @@
+pub mod Questions
 pub mod Reading
 pub mod Rules
 pub mod Told
