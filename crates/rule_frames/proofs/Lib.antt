@@ -1,0 +1,8 @@
+mod Telling
+pub mod Shown
+mod Agreeing
+mod Asked
+mod Trying
+pub mod Falling
+pub mod Laws
+pub mod Questions

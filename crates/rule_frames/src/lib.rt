@@ -1,0 +1,13 @@
+//! Trials of rules as machines: a trial asks for the values of guards and goes on with them, until a rule applies or none does.
+#![tactic(auto)]
+
+mod attempt;
+mod guards;
+mod heads;
+mod placing;
+mod trial;
+mod tries;
+
+pub use attempt::Attempt;
+pub use placing::place;
+pub use tries::Try;
