@@ -4,10 +4,8 @@
 mod attempt;
 mod guards;
 mod heads;
-mod placing;
 mod trial;
 mod tries;
 
 pub use attempt::Attempt;
-pub use placing::place;
 pub use tries::Try;
