@@ -1,3 +1,4 @@
+mod Bounds
 mod Frames
 mod Numbers
 mod Shifts
