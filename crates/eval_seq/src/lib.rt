@@ -6,6 +6,7 @@ mod context;
 mod defs;
 mod effects;
 mod ending;
+mod evaluate;
 mod outward;
 mod rows;
 mod steps;
