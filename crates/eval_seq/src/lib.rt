@@ -2,6 +2,7 @@
 #![tactic(auto)]
 
 mod assemble;
+mod call;
 mod context;
 mod defs;
 mod effects;
@@ -12,6 +13,7 @@ mod rows;
 mod steps;
 mod symbols;
 
+pub use call::{Ended, Outcome, eval};
 pub use context::Context;
 pub use defs::Defs;
 pub use ending::Missing;
