@@ -1,11 +1,10 @@
 //! Evaluating: a cycle of functions, of which each says that the evaluation went on from a program to its end.
-ghost use Rattle.std.specs.Prelude.{◌≡◌, IfOk};
+ghost use Rattle.std.specs.Prelude.{IfOk};
 ghost use Rattle.expr_tree.specs.Tree.{call};
 ghost use Rattle.semantics.specs.Pass as p;
 ghost use Rattle.semantics.specs.Assemble as a;
 ghost use Rattle.builtin_names.specs.Attributes.{attributes_in};
-ghost use Rattle.builtin_names.specs.Named.{HasBuiltins, names_in};
-ghost use Rattle.evaluation_steps.specs.Stopping.{AreBounded};
+ghost use Rattle.builtin_names.specs.Named.{names_in};
 ghost use Rattle.eval_seq.specs.Defined.{defs_in};
 ghost use Rattle.eval_seq.specs.Outward.{Guarded};
 ghost use Rattle.eval_seq.specs.Setup.{setting_of, state_of};
