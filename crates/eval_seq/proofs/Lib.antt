@@ -8,3 +8,4 @@ pub mod SymbolLaws
 pub mod StepLaws
 pub mod SequenceLaws
 pub mod Readiness
+pub mod Telling

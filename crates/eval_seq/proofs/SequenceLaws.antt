@@ -1,26 +1,32 @@
 -- How head and elements are evaluated, and the fixed point.
 use Rattle.std.proofs.Common.{◌≡◌, ℕ, suc, ◌+◌, ◌<◌, ◌≤◌, length, drop, get_or, drop-cons, arith, Bool, true, false, List, [], ◌∷◌, ◌++◌, Option, Some, None, Result, Ok, Err, refl, sym, subst}
 use Rattle.std.proofs.lemmas.List.{drop_all}
+use Rattle.std.proofs.lemmas.Bool.{ltb-false}
+use Rattle.std.proofs.Math.Dec.{ltb}
+use Rattle.std.specs.Prelude.{IfOk}
 use Rattle.std.specs.Result.{IsErrAnd}
-use Rattle.expr_tree.specs.Tree.{Tree, integer, string, symbol, normal, call}
+use Rattle.expr_tree.specs.Tree.{Tree, integer, string, symbol, normal, call, size, depth}
+use Rattle.expr_tree.specs.declared.limits.Limits.{Limits}
 use Rattle.expr_tree.specs.Order.{same}
 use Rattle.expr_tree.proofs.Same.{tree_eq-true, tree_eq-refl}
 use Rattle.expr_tree.specs.declared.limits.Stop.{Stop}
 use Rattle.semantics.specs.Names.{Names}
 use Rattle.semantics.specs.Definitions.{Attributes}
 use Rattle.semantics.specs.Program.{Prog, Ask, Check}
-use Rattle.semantics.specs.Assemble.{attributes_of, is_asked, holds_first, holds_rest, ask_rest, ask_items, spliced}
-use Rattle.semantics.specs.Pass.{pass}
-use Rattle.semantics.specs.Play.{Setting, State}
+use Rattle.semantics.specs.Assemble.{attributes_of, is_asked, holds_first, holds_rest, ask_rest, ask_items, first_steps, spliced}
+use Rattle.semantics.specs.Pass.{pass, later_steps}
+use Rattle.semantics.specs.Play.{Setting, State, first_cause}
 use Rattle.evaluation_steps.specs.declared.Halt.{Halt}
 use Rattle.evaluation_steps.specs.Leads.{Step}
-use Rattle.evaluation_steps.specs.Words.{Settled, Played, Reached, Led, Counted, Fits}
+use Rattle.evaluation_steps.specs.Words.{Settled, Played, Reached, Led, Counted, FitsBy, Fits}
+use Rattle.evaluation_steps.specs.Stopping.{AreBounded}
 use Rattle.evaluation_steps.specs.Passed.{Passed}
-use Rattle.evaluation_steps.proofs.Laws.{reached_here, reached_on, reached_look, reached_part, led_here, led_on, led_then, led_ask, led_check, ran_value, ran_check_out, settled_same, settled_large, settled_worn, settled_again_out, passed_again}
+use Rattle.evaluation_steps.proofs.Laws.{went_lost, reached_here, reached_on, reached_look, reached_part, led_here, led_on, led_then, led_ask, led_check, ran_value, ran_check_out, settled_same, settled_large, settled_worn, settled_again_out, passed_again}
 use Rattle.eval_seq.specs.declared.ending.Ending.{Ending}
-use Rattle.eval_seq.specs.Walks.{Evaluates, Settles, Runs, PassOf, valued}
-use Rattle.eval_seq.specs.Sequence.{attributes_seen, one_asked, asking, firsts, Turned}
-use Rattle.eval_seq.proofs.Walking.{goes_on, evaluated_of, ran_of, runs_value, runs_halt, runs_led, runs_ask, runs_ask_out, runs_then_out, settles_halt}
+use Rattle.eval_seq.specs.Walks.{or_itself, Evaluates, Settles, Runs, PassOf, valued}
+use Rattle.eval_seq.specs.declared.assemble.Spliced.{Spliced}
+use Rattle.eval_seq.specs.Sequence.{attributes_seen, one_asked, asking, firsts, spliced_of, Turned, Within}
+use Rattle.eval_seq.proofs.Walking.{goes_on, evaluated_of, ran_of, runs_value, runs_halt, runs_led, runs_ask, runs_ask_out, runs_then_out, runs_memory, evaluates_err, pass_on, pass_part_out, settles_halt}
 
 rest_is : (names : Names) (a : Attributes) (es done : List Tree) (k : List Tree → Prog) → ask_rest names a es done k ≡ asking names a (holds_rest a) es done k
 rest_is names a [] done k = refl
@@ -109,6 +115,24 @@ module _ {S : Type 0} {step : Step S} {set : Setting} {n : ℕ} where
       rw e (runs_led (led_on (head_on h items b is) (led_then {q = λ vs k. after_items set.names head a vs k} (ran_of c)))
       (runs_led (led_check {p = λ k. k (head, a, spliced set.names a values)} (rw e at f)) (runs_value ran_value)))
 
+  -- want of memory once head and elements are evaluated
+  pub first_lost : (h : Tree) (items : List Tree) {head : Tree} {a : Attributes} {values : List Tree} {s m z : S} {st st' st'' last : State} → Evaluates step set n h s st (Ok head) st' m → a ≡ attributes_seen set.names st'.definitions head →
+      Runs step set n (ask_items set.names a items) m st' (Ok values) st'' z → Runs step set n (firsts set.names h items) s st (Err (Ending.Halt Halt.NoMemory)) last z
+  first_lost h items {head = head} {a = a} b is c = runs_led (led_on (head_on h items b is) (led_then {q = λ vs k. after_items set.names head a vs k} (ran_of c))) runs_memory
+
+  pub firsts_err : {p : (Tree × Attributes × List Tree → Prog) → Prog} {x : Ending} (r : Result Spliced Ending) {s z : S} {st st' : State} → IsErrAnd r (λ y. y ≡ x) → Runs step set n p s st (Err x) st' z → Runs step set n p s st (spliced_of r) st' z
+  firsts_err (Ok v) i a = absurd i
+  firsts_err (Err y) i a = rw i a
+
+  -- ---- a pass over a normal expression
+
+  pub normal_out : (h : Tree) (items : List Tree) {x : Ending} {s z : S} {st st' : State} → Runs step set n (firsts set.names h items) s st (Err x) st' z → PassOf step set n (first_steps set.names h items (later_steps set.names)) s st (Err x) st' z
+  normal_out h items a = pass_part_out (λ t. later_steps set.names t.0 t.1 t.2) a
+
+  pub normal_on : (h : Tree) (items : List Tree) {head : Tree} {a : Attributes} {es : List Tree} {r : Result Tree Ending} {s m z : S} {st st' st'' : State} → Runs step set n (firsts set.names h items) s st (Ok (head, a, es)) st' m →
+      PassOf step set n (later_steps set.names head a es) m st' r st'' z → PassOf step set n (first_steps set.names h items (later_steps set.names)) s st r st'' z
+  normal_on h items b c = pass_on (reached_part (λ t. later_steps set.names t.0 t.1 t.2) (ran_of b)) c
+
   -- ---- one pass and its value
 
   played_of : {p : Prog} {v : Tree} {s z : S} {st st' : State} → PassOf step set n p s st (Ok v) st' z → Played step set n p s st (Ok v) st' z
@@ -145,3 +169,28 @@ module _ {S : Type 0} {step : Step S} {set : Setting} {n : ℕ} where
 
   pub passed_settles : {a b : ℕ} {e f : Tree} {r : Result Tree Ending} {s m z : S} {st st' st'' : State} → Passed step set n a e s st b f st' m → Settles step set n b f m st' r st'' z → Settles step set n a e s st r st'' z
   passed_settles x y = record { goes = goes_on x.on y.goes }
+
+  pub settles_err_or : (e : Tree) (r : Result (Option Tree) Ending) {m : ℕ} {f : Tree} {x : Ending} {s z : S} {st st' : State} → IsErrAnd r (λ y. y ≡ x) → Settles step set n m f s st (Err x) st' z → Settles step set n m f s st (or_itself e r) st' z
+  settles_err_or e (Ok None) i a = absurd i
+  settles_err_or e (Ok (Some v)) i a = absurd i
+  settles_err_or e (Err y) i a = rw i a
+
+  -- want of memory once the value stands
+  pub evaluates_lost : {e v : Tree} {s z : S} {st st' st'' : State} {r : Result Tree Ending} → IsErrAnd r (λ y. y ≡ Ending.Halt Halt.NoMemory) → Evaluates step set n e s st (Ok v) st' z → Evaluates step set n e s st r st'' z
+  evaluates_lost i a = evaluates_err i (record { goes = record { went = went_lost a.goes.went.by; met = tt } })
+
+fit_cases : (large deep : Bool) {u : Unit {0}} → FitsBy (first_cause large deep) (Ok u) → (large ≡ false) × (deep ≡ false)
+fit_cases true deep h = absurd h
+fit_cases false true h = absurd h
+fit_cases false false h = (refl, refl)
+
+pub within_of : {limits : Limits} {h : Tree} {items : List Tree} {u : Unit {0}} → AreBounded limits → Fits limits (call h items) (Ok u) → Within h items
+within_of {limits = limits} {h = h} {items = items} b f =
+    let x = fit_cases (ltb limits.size (size (call h items))) (ltb limits.depth (depth (call h items))) f.by in
+    let small : size (call h items) ≤ limits.size = ltb-false limits.size (size (call h items)) x.0 in
+    let shallow : depth (call h items) ≤ limits.depth = ltb-false limits.depth (depth (call h items)) x.1 in
+    record { small = omega (arith, small, b.size_is); shallow = omega (arith, shallow, b.depth_is) }
+
+pub within_err : (x : Ending) (r : Result Spliced Ending) → IsErrAnd r (λ y. y ≡ x) → IfOk r (λ s. Within s.head s.items)
+within_err x (Ok v) i = absurd i
+within_err x (Err y) i = tt

@@ -4,3 +4,4 @@ pub mod Setup
 pub mod Built
 pub mod Walks
 pub mod Sequence
+pub mod Told

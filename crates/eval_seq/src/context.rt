@@ -15,6 +15,7 @@ pub struct Context<'a> {
 }
 
 /// What does not change during an evaluation.
+#[derive(Drop)]
 pub(crate) struct Scene<'a> {
     pub alloc: Global,
     pub names: &'a Names,

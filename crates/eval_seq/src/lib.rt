@@ -2,15 +2,18 @@
 #![tactic(auto)]
 
 mod assemble;
+mod call;
 mod context;
 mod defs;
 mod effects;
 mod ending;
+mod evaluate;
 mod outward;
 mod rows;
 mod steps;
 mod symbols;
 
+pub use call::{Ended, Outcome, eval};
 pub use context::Context;
 pub use defs::Defs;
 pub use ending::Missing;

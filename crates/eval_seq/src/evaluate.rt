@@ -1,0 +1,246 @@
+//! Evaluating: a cycle of functions, of which each says that the evaluation went on from a program to its end.
+ghost use Rattle.std.specs.Prelude.{IfOk};
+ghost use Rattle.expr_tree.specs.Tree.{call};
+ghost use Rattle.semantics.specs.Pass as p;
+ghost use Rattle.semantics.specs.Assemble as a;
+ghost use Rattle.builtin_names.specs.Attributes.{attributes_in};
+ghost use Rattle.builtin_names.specs.Named.{names_in};
+ghost use Rattle.eval_seq.specs.Defined.{defs_in};
+ghost use Rattle.eval_seq.specs.Outward.{Guarded};
+ghost use Rattle.eval_seq.specs.Setup.{setting_of, state_of};
+ghost use Rattle.eval_seq.specs.Walks.{or_itself, Evaluates, Settles, Runs, PassOf};
+ghost use Rattle.eval_seq.specs.Sequence.{one_asked, firsts, spliced_of, Turned, Within};
+
+use crate::assemble::Spliced;
+use crate::context::{Going, Scene};
+use crate::defs::Defs;
+use crate::effects::{check, check_call, count};
+use crate::ending::Ending;
+use crate::outward::Upcall;
+use crate::steps::later;
+use crate::symbols::{attrs_under, own};
+use attr_steps::{holds_first, holds_rest, is_asked, spliced};
+use evaluation_steps::Halt;
+use expr_tree::{Attrs, Expr, Exprs, Node, Stop};
+use item_list::Items;
+
+/// Evaluates an expression, with `left` nested evaluations left. `None` is the expression itself.
+#[cycle(evaluate)]
+pub(crate) fn evaluate<U: Upcall>(
+    scene: &Scene,
+    left: u32,
+    defs: &mut Defs,
+    up: &mut U,
+    going: &mut Going,
+    e: &Expr,
+) -> Result<Option<Expr>, Ending>
+    requires { U.ready up.old }
+    ensures { Evaluates (Guarded U.step U.ready) (setting_of scene.now) left e.now up.old (state_of (defs_in defs.old) going.old) (or_itself e.now result) (state_of (defs_in defs.new) going.new) up.new }
+{
+    if left == 0 {
+        return Err(Ending::Halt(Halt::Stopped(Stop::Recursion)));
+    }
+    settle(scene, left - 1, defs, up, going, e)
+}
+
+/// Makes passes until one changes nothing.
+#[cycle(evaluate)]
+fn settle<U: Upcall>(
+    scene: &Scene,
+    left: u32,
+    defs: &mut Defs,
+    up: &mut U,
+    going: &mut Going,
+    e: &Expr,
+) -> Result<Option<Expr>, Ending>
+    requires { U.ready up.old }
+    ensures { Settles (Guarded U.step U.ready) (setting_of scene.now) left scene.now.limits.iteration e.now up.old (state_of (defs_in defs.old) going.old) (or_itself e.now result) (state_of (defs_in defs.new) going.new) up.new }
+{
+    let changes = scene.limits.iteration;
+    let Some(value) = turn(scene, left, defs, up, going, changes, e)? else {
+        return Ok(None);
+    };
+    let value = settle_rest(scene, left, defs, up, going, changes - 1, value)?;
+    Ok(Some(value))
+}
+
+/// Makes further passes until one changes nothing, with so many changing ones left.
+#[cycle(evaluate)]
+fn settle_rest<U: Upcall>(
+    scene: &Scene,
+    left: u32,
+    defs: &mut Defs,
+    up: &mut U,
+    going: &mut Going,
+    changes: u32,
+    e: Expr,
+) -> Result<Expr, Ending>
+    requires { U.ready up.old }
+    ensures { Settles (Guarded U.step U.ready) (setting_of scene.now) left changes e up.old (state_of (defs_in defs.old) going.old) result (state_of (defs_in defs.new) going.new) up.new }
+{
+    let mut e = e;
+    let mut changes = changes;
+    'passes: loop {
+        let Some(value) = turn(scene, left, defs, up, going, changes, &e)? else {
+            return Ok(e);
+        };
+        changes -= 1;
+        e = value;
+    }
+}
+
+/// Makes one pass, and judges its value. `None` is the expression itself, which ends the evaluation.
+#[cycle(evaluate)]
+fn turn<U: Upcall>(
+    scene: &Scene,
+    left: u32,
+    defs: &mut Defs,
+    up: &mut U,
+    going: &mut Going,
+    changes: u32,
+    e: &Expr,
+) -> Result<Option<Expr>, Ending>
+    requires { U.ready up.old }
+    ensures { Turned (Guarded U.step U.ready) (setting_of scene.now) left changes e.now up.old (state_of (defs_in defs.old) going.old) result (state_of (defs_in defs.new) going.new) up.new }
+{
+    let Some(value) = pass(scene, left, defs, up, going, e)? else {
+        check(&scene.limits, e)?;
+        return Ok(None);
+    };
+    check(&scene.limits, &value)?;
+    if value.equals(e) {
+        return Ok(None);
+    }
+    if changes == 0 {
+        return Err(Ending::Halt(Halt::Stopped(Stop::Iteration)));
+    }
+    count(&scene.limits, true, going)?;
+    Ok(Some(value))
+}
+
+/// Makes one pass.
+#[cycle(evaluate)]
+fn pass<U: Upcall>(
+    scene: &Scene,
+    left: u32,
+    defs: &mut Defs,
+    up: &mut U,
+    going: &mut Going,
+    e: &Expr,
+) -> Result<Option<Expr>, Ending>
+    requires { U.ready up.old }
+    ensures { PassOf (Guarded U.step U.ready) (setting_of scene.now) left (p.pass (names_in scene.now.names.now) e.now) up.old (state_of (defs_in defs.old) going.old) (or_itself e.now result) (state_of (defs_in defs.new) going.new) up.new }
+{
+    match e.node() {
+        Node::Int(_) => Ok(None),
+        Node::Str(_) => Ok(None),
+        Node::Symbol(symbol) => own(scene, defs, up, going, *symbol),
+        Node::Normal(head, items) => normal(scene, left, defs, up, going, head, items.as_slice()),
+    }
+}
+
+/// Makes one pass over a normal expression.
+#[cycle(evaluate)]
+fn normal<U: Upcall>(
+    scene: &Scene,
+    left: u32,
+    defs: &mut Defs,
+    up: &mut U,
+    going: &mut Going,
+    head: &Expr,
+    items: &[Expr],
+) -> Result<Option<Expr>, Ending>
+    requires { U.ready up.old }
+    ensures { PassOf (Guarded U.step U.ready) (setting_of scene.now) left (a.first_steps (names_in scene.now.names.now) head.now items.now (p.later_steps (names_in scene.now.names.now))) up.old (state_of (defs_in defs.old) going.old) (or_itself (call head.now items.now) result) (state_of (defs_in defs.new) going.new) up.new }
+{
+    let first = first_steps(scene, left, defs, up, going, head, items)?;
+    let value = later(scene, defs, up, going, first)?;
+    Ok(Some(value))
+}
+
+/// Evaluates head and elements, and splices.
+#[cycle(evaluate)]
+pub(crate) fn first_steps<U: Upcall>(
+    scene: &Scene,
+    left: u32,
+    defs: &mut Defs,
+    up: &mut U,
+    going: &mut Going,
+    head: &Expr,
+    items: &[Expr],
+) -> Result<Spliced, Ending>
+    requires { U.ready up.old }
+    ensures runs { Runs (Guarded U.step U.ready) (setting_of scene.now) left (firsts (names_in scene.now.names.now) head.now items.now) up.old (state_of (defs_in defs.old) going.old) (spliced_of result) (state_of (defs_in defs.new) going.new) up.new }
+    ensures within { IfOk result (λ s. Within s.head s.items) }
+{
+    let head = value_of(scene, left, defs, up, going, head)?;
+    let attrs = attrs_under(scene.names, defs, &head);
+    let values = elements(scene, left, defs, up, going, &attrs, items)?;
+    let items = spliced(scene.alloc, scene.names, &attrs, values)?;
+    check_call(&scene.limits, &head, items.as_slice())?;
+    Ok(Spliced { head, attrs, items })
+}
+
+/// The value of an expression.
+#[cycle(evaluate)]
+pub(crate) fn value_of<U: Upcall>(
+    scene: &Scene,
+    left: u32,
+    defs: &mut Defs,
+    up: &mut U,
+    going: &mut Going,
+    e: &Expr,
+) -> Result<Expr, Ending>
+    requires { U.ready up.old }
+    ensures { Evaluates (Guarded U.step U.ready) (setting_of scene.now) left e.now up.old (state_of (defs_in defs.old) going.old) result (state_of (defs_in defs.new) going.new) up.new }
+{
+    match evaluate(scene, left, defs, up, going, e)? {
+        Some(value) => Ok(value),
+        None => Ok(e.copy(scene.alloc)?),
+    }
+}
+
+/// Evaluates the elements that are not held.
+#[cycle(evaluate)]
+fn elements<U: Upcall>(
+    scene: &Scene,
+    left: u32,
+    defs: &mut Defs,
+    up: &mut U,
+    going: &mut Going,
+    attrs: &Attrs,
+    items: &[Expr],
+) -> Result<Exprs, Ending>
+    requires { U.ready up.old }
+    ensures { Runs (Guarded U.step U.ready) (setting_of scene.now) left (a.ask_items (names_in scene.now.names.now) (attributes_in attrs.now) items.now) up.old (state_of (defs_in defs.old) going.old) result (state_of (defs_in defs.new) going.new) up.new }
+{
+    let mut held = holds_first(attrs);
+    let mut done = Items::new(scene.alloc);
+    for item in items {
+        let value = element(scene, left, defs, up, going, attrs, held, item)?;
+        done.push(value)?;
+        held = holds_rest(attrs);
+    }
+    Ok(done)
+}
+
+/// Evaluates an element, unless it is held.
+#[cycle(evaluate)]
+fn element<U: Upcall>(
+    scene: &Scene,
+    left: u32,
+    defs: &mut Defs,
+    up: &mut U,
+    going: &mut Going,
+    attrs: &Attrs,
+    held: bool,
+    item: &Expr,
+) -> Result<Expr, Ending>
+    requires { U.ready up.old }
+    ensures { Runs (Guarded U.step U.ready) (setting_of scene.now) left (one_asked (names_in scene.now.names.now) (attributes_in attrs.now) held item.now) up.old (state_of (defs_in defs.old) going.old) result (state_of (defs_in defs.new) going.new) up.new }
+{
+    if !is_asked(scene.names, attrs, held, item) {
+        return Ok(item.copy(scene.alloc)?);
+    }
+    value_of(scene, left, defs, up, going, item)
+}
