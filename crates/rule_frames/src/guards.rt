@@ -7,9 +7,9 @@ ghost use Rattle.evaluation_steps.specs.Stopping.{AreBounded, Checked};
 ghost use Rattle.builtin_names.specs.Named.{HasBuiltins, names_in};
 ghost use Rattle.match_seq.specs.Goals.{guard_of};
 
-use frames_scope::place;
 use evaluation_steps::{Halt, checked, fits, stop_for};
 use expr_tree::{Built, Expr, Exprs, Limits};
+use frames_scope::place;
 use item_list::Items;
 use match_seq::Guard;
 use name_table::Names;
