@@ -6,6 +6,8 @@ mod holding;
 mod sorting;
 mod splicing;
 mod stripping;
+#[cfg(test)]
+mod tests;
 mod threading;
 
 pub use flattening::{flatten, flattened};

@@ -14,6 +14,8 @@ mod nest;
 mod nest_list;
 mod select;
 mod stack;
+#[cfg(test)]
+mod tests;
 mod which;
 mod while_loop;
 

@@ -9,6 +9,8 @@ mod moves;
 mod placing;
 mod reading;
 mod symbols;
+#[cfg(test)]
+mod tests;
 mod with_form;
 
 pub use block_form::Block;

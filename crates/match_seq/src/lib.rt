@@ -11,6 +11,8 @@ mod setting;
 mod shapes;
 mod source;
 mod take;
+#[cfg(test)]
+mod tests;
 mod turn;
 
 pub use found::{Found, Guard, Guards};

@@ -3,6 +3,8 @@
 
 mod strings;
 mod table;
+#[cfg(test)]
+mod tests;
 
 pub use strings::{row_characters, row_string_join, row_string_length, row_string_reverse};
 pub use table::rewrite;

@@ -8,6 +8,8 @@ mod products;
 mod short_forms;
 mod sums;
 mod terms;
+#[cfg(test)]
+mod tests;
 
 pub use powers::power;
 pub use products::times;

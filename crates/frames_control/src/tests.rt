@@ -1,17 +1,47 @@
-//! Control forms.
+ghost use Rattle.std.specs.Prelude.{IfOk};
 ghost use Rattle.builtin_names.specs.Named.{HasBuiltins};
+ghost use Rattle.evaluation_steps.specs.Stopping.{AreBounded};
 
-use crate::support::{integers, other, small_limits, table};
-use expr_tree::{Expr, Exprs};
-use frames_control::{Form, Frame, Move};
+use crate::{Form, Frame, Move};
+use builtin_names::names_with;
+use expr_tree::{Expr, Exprs, Limits, Sym};
 use item_list::Items;
 use name_table::Names;
 use std::alloc::Global;
 use std::test::Fail;
 
+fn table(alloc: Global) -> Result<Names, Fail>
+    ensures { IfOk result (λ names. HasBuiltins names) }
+{
+    let none = Items::new(alloc);
+    Ok(names_with(alloc, &none)?)
+}
+
+fn small() -> Limits
+    ensures { AreBounded result }
+{
+    Limits {
+        recursion: 10,
+        iteration: 10,
+        steps: 100,
+        size: 1000,
+        depth: 100,
+    }
+}
+
+fn integers(alloc: Global, first: i128, second: i128) -> Result<Exprs, Fail> {
+    let mut items = Items::new(alloc);
+    items.push(Expr::int(first))?;
+    items.push(Expr::int(second))?;
+    Ok(items)
+}
+
 // f, 1 and f[2, 3]
 fn folding(alloc: Global) -> Result<Exprs, Fail> {
-    let f = Expr::symbol(other(0));
+    let f = Expr::symbol(Sym {
+        base: 500,
+        number: 0,
+    });
     let elements = Expr::normal(alloc, f.copy(alloc)?, integers(alloc, 2, 3)?)?;
     let mut items = Items::new(alloc);
     items.push(f)?;
@@ -33,7 +63,7 @@ fn begin(alloc: Global, names: &Names, form: Form, items: &Exprs) -> Result<Fram
 fn atoms_asked_for(alloc: Global, names: &Names, frame: &mut Frame, answer: Option<Expr>) -> u64
     requires { HasBuiltins names.now }
 {
-    match frame.step(alloc, names, &small_limits(), answer) {
+    match frame.step(alloc, names, &small(), answer) {
         Ok(Move::Ask(question, _)) => question.size(),
         _ => 0,
     }
@@ -42,7 +72,7 @@ fn atoms_asked_for(alloc: Global, names: &Names, frame: &mut Frame, answer: Opti
 fn ends_with(alloc: Global, names: &Names, frame: &mut Frame, last: i128) -> bool
     requires { HasBuiltins names.now }
 {
-    match frame.step(alloc, names, &small_limits(), Some(Expr::int(last))) {
+    match frame.step(alloc, names, &small(), Some(Expr::int(last))) {
         Ok(Move::Done(value)) => value.equals(&Expr::int(last)),
         _ => false,
     }

@@ -1,14 +1,32 @@
-//! Steps of a pass on elements.
+ghost use Rattle.std.specs.Prelude.{IfOk};
 ghost use Rattle.builtin_names.specs.Named.{HasBuiltins};
 
-use crate::support::{integers, one, other, table};
-use attr_steps::{flatten, flattened, order, sorted, splice, spliced, strip, thread, threaded};
-use builtin_names::make;
+use crate::{flatten, flattened, order, sorted, splice, spliced, strip, thread, threaded};
+use builtin_names::{make, names_with};
 use expr_tree::{Attrs, Expr, Exprs, Sym};
+use item_list::Items;
 use name_table::Names;
 use semantics::Builtin;
 use std::alloc::Global;
 use std::test::Fail;
+
+fn names(alloc: Global) -> Result<Names, Fail>
+    ensures { IfOk result (λ names. HasBuiltins names) }
+{
+    Ok(names_with(alloc, &Items::new(alloc))?)
+}
+
+fn one(alloc: Global, e: Expr) -> Result<Exprs, Fail> {
+    let mut items = Items::new(alloc);
+    items.push(e)?;
+    Ok(items)
+}
+
+fn two(alloc: Global, a: i128, b: i128) -> Result<Exprs, Fail> {
+    let mut items = one(alloc, Expr::int(a))?;
+    items.push(Expr::int(b))?;
+    Ok(items)
+}
 
 fn are(items: &Exprs, a: i128, b: i128) -> bool {
     match items.as_slice() {
@@ -21,12 +39,12 @@ fn are(items: &Exprs, a: i128, b: i128) -> bool {
 fn wrapped(alloc: Global, names: &Names, row: Builtin) -> Result<Exprs, Fail>
     requires names { HasBuiltins names.now }
 {
-    one(alloc, make(alloc, names, row, integers(alloc, 1, 2)?)?)
+    one(alloc, make(alloc, names, row, two(alloc, 1, 2)?)?)
 }
 
 #[test]
 fn a_sequence_is_spliced(rt: HostRuntime) -> Result<(), Fail> {
-    let names = table(rt.alloc())?;
+    let names = names(rt.alloc())?;
     let items = wrapped(rt.alloc(), &names, Builtin::Sequence)?;
     let items = spliced(rt.alloc(), &names, &Attrs::none(), items)?;
     assert!(rt; are(&items, 1, 2));
@@ -37,7 +55,7 @@ fn a_sequence_is_spliced(rt: HostRuntime) -> Result<(), Fail> {
 
 #[test]
 fn an_unevaluated_is_taken_off(rt: HostRuntime) -> Result<(), Fail> {
-    let names = table(rt.alloc())?;
+    let names = names(rt.alloc())?;
     let inner = one(rt.alloc(), Expr::int(3))?;
     let items = one(
         rt.alloc(),
@@ -52,14 +70,14 @@ fn an_unevaluated_is_taken_off(rt: HostRuntime) -> Result<(), Fail> {
 }
 
 fn head() -> Sym {
-    other(0)
+    Sym { base: 1, number: 7 }
 }
 
 // f[1, 2] alone
 fn nested(alloc: Global) -> Result<Exprs, Fail> {
     one(
         alloc,
-        Expr::normal(alloc, Expr::symbol(head()), integers(alloc, 1, 2)?)?,
+        Expr::normal(alloc, Expr::symbol(head()), two(alloc, 1, 2)?)?,
     )
 }
 
@@ -83,7 +101,7 @@ fn a_call_of_the_head_is_flattened(rt: HostRuntime) -> Result<(), Fail> {
 
 #[test]
 fn elements_are_sorted(rt: HostRuntime) -> Result<(), Fail> {
-    let items = order(rt.alloc(), integers(rt.alloc(), 2, 1)?)?;
+    let items = order(rt.alloc(), two(rt.alloc(), 2, 1)?)?;
     assert!(rt; are(&items, 1, 2));
     let attrs = Attrs {
         orderless: true,
@@ -97,7 +115,7 @@ fn elements_are_sorted(rt: HostRuntime) -> Result<(), Fail> {
 // f[1] is threaded over nothing
 #[test]
 fn a_call_without_lists_is_not_threaded(rt: HostRuntime) -> Result<(), Fail> {
-    let names = table(rt.alloc())?;
+    let names = names(rt.alloc())?;
     assert!(rt; thread(rt.alloc(), &names, head(), &[])?.is_none());
     let attrs = Attrs::none();
     assert!(rt; threaded(rt.alloc(), &names, &Expr::symbol(head()), &attrs, &[])?.is_none());
