@@ -1,8 +1,8 @@
 -- What a step makes besides its move.
 --     done_of               the result, or the halt in its place
 --     made_all              definitions in which locals have their values for good
---     any_shared            whether one of some symbols is shared
-use Rattle.std.specs.Prelude.{List, [], ◌∷◌, Bool, true, false, Option, Some, None, Result, Ok, Err}
+--     is_shared, any_shared whether a symbol, or one of some, is shared
+use Rattle.std.specs.Prelude.{List, [], ◌∷◌, Bool, false, ◌||◌, is_some, Result, Ok, Err}
 use Rattle.expr_tree.specs.declared.sym.Sym.{Sym}
 use Rattle.expr_tree.specs.Tree.{Tree}
 use Rattle.semantics.specs.Names.{Names}
@@ -20,6 +20,9 @@ abbrev pub made_all : Names → List Local → Definitions → Definitions
 made_all names [] d = d
 made_all names (l ∷ ls) d = made_all names ls (written names d l.symbol (local_definition l))
 
+abbrev pub is_shared : List Shared → Sym → Bool
+is_shared shared s = is_some (shared_as shared s)
+
 abbrev pub any_shared : List Shared → List Sym → Bool
 any_shared shared [] = false
-any_shared shared (s ∷ ss) = elim (shared_as shared s) [ None ↦ any_shared shared ss | Some e ↦ true ]
+any_shared shared (s ∷ ss) = is_shared shared s || any_shared shared ss

@@ -1,12 +1,14 @@
 //! Block over the definitions.
-ghost use Rattle.std.specs.Prelude.{◌≡◌};
-ghost use Rattle.semantics.specs.Program.{Prog};
-ghost use Rattle.semantics.specs.Scoping.{symbols_of};
+ghost use Rattle.std.specs.Prelude.{◌≡◌, [], Bool, IfOk, None};
+ghost use Rattle.semantics.specs.Names as n;
+ghost use Rattle.semantics.specs.Program.{Prog, Done, Within};
+ghost use Rattle.semantics.specs.Scoping.{ask_values, symbols_of};
 ghost use Rattle.semantics.specs.Table as t;
 ghost use Rattle.semantics.specs.declared.builtin.Builtin as b;
 ghost use Rattle.builtin_names.specs.Named.{HasBuiltins, names_in};
 ghost use Rattle.frame_steps.specs.Setup.{setting_of};
 ghost use Rattle.frame_steps.specs.Steps.{Falls, Starts, Stepped};
+ghost use Rattle.frames_scope.specs.Left as left;
 ghost use Rattle.frames_scope.specs.Reading.{locals_in};
 ghost use Rattle.row_frames.specs.Asking.{asks};
 ghost use Rattle.row_frames.specs.Frames as f;
@@ -14,6 +16,7 @@ ghost use Rattle.row_frames.specs.Results.{any_shared};
 ghost use Rattle.row_frames.specs.Rows.{left_block};
 
 use crate::frame::Frame;
+use crate::results::is_shared;
 use crate::scoped::whole;
 use builtin_names::name;
 use evaluation_steps::Halt;
@@ -40,11 +43,33 @@ fn any_shared(shared: &Shared, locals: &Locals) -> bool
     ensures { result ≡ any_shared shared.now (symbols_of (locals_in locals.now)) }
 {
     for local in locals.as_slice() {
-        if shared.find(local.symbol).is_some() {
+        if is_shared(shared, local.symbol) {
             return true;
         }
     }
     false
+}
+
+/// A Block whose symbols are not shared.
+fn seen(alloc: Global, scope: &mut Scope) -> Result<Block, AllocError>
+    ensures { (names : n.Names) → IfOk result (λ b. left.left_block names b None ≡ ask_values (locals_in scope.old.locals) [] (λ ls. Within ls scope.old.body Done)) }
+{
+    let locals = mem::replace(&mut scope.locals, Items::new(alloc));
+    let body = scope.body.copy(alloc)?;
+    Ok(Block::start(alloc, Scope { locals, body }))
+}
+
+fn step_block(
+    form: &mut Block,
+    scene: &Scene,
+    defs: &mut Defs,
+    answer: Option<Expr>,
+) -> Result<Move, Halt>
+    ensures stepped { (stay : Prog) (used : Bool) → Stepped (setting_of scene.now) (left.left_block (names_in scene.now.names.now) form.old answer) stay defs.old used result (left.left_block (names_in scene.now.names.now) form.new) defs.new used }
+    ensures falls { Falls result (asks (left.left_block (names_in scene.now.names.now) form.old answer)) (λ v. asks (left.left_block (names_in scene.now.names.now) form.new v)) }
+{
+    let moved = form.step(scene.alloc, scene.names, answer);
+    whole(scene, defs, moved)
 }
 
 impl BlockRow {
@@ -57,7 +82,8 @@ impl BlockRow {
         requires names { HasBuiltins names.now }
         ensures { Starts (f.left (names_in names.now)) (λ stay. t.row (names_in names.now) b.Builtin.Block stay items.now) result }
     {
-        match block_scope(alloc, names, items)? {
+        let read = block_scope(alloc, names, items)?;
+        match read {
             Some(scope) => Ok(Some(Frame::Block(BlockRow::Unseen(scope)))),
             None => Ok(None),
         }
@@ -80,17 +106,12 @@ impl BlockRow {
                     *used = true;
                     return Ok(Move::Done(name(scene.names, Builtin::Failed)));
                 }
-                let locals = mem::replace(&mut scope.locals, Items::new(scene.alloc));
-                let body = scope.body.copy(scene.alloc)?;
-                let mut block = Block::start(scene.alloc, Scope { locals, body });
-                let moved = block.step(scene.alloc, scene.names, None);
-                *self = BlockRow::Seen(block);
-                whole(scene, defs, moved)
+                let mut form = seen(scene.alloc, scope)?;
+                let result = step_block(&mut form, scene, defs, None);
+                *self = BlockRow::Seen(form);
+                result
             }
-            BlockRow::Seen(block) => {
-                let moved = block.step(scene.alloc, scene.names, answer);
-                whole(scene, defs, moved)
-            }
+            BlockRow::Seen(form) => step_block(form, scene, defs, answer),
         }
     }
 }

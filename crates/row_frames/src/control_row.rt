@@ -11,7 +11,7 @@ ghost use Rattle.frames_scope.specs.Reading.{locals_in};
 ghost use Rattle.row_frames.specs.Frames as f;
 
 use crate::frame::Frame;
-use crate::results::done;
+use crate::results::{done, is_shared};
 use evaluation_steps::{Halt, checked};
 use expr_tree::Expr;
 use frame_steps::{Move, Scene};
@@ -69,7 +69,7 @@ pub(crate) fn step_control(
             Ok(Move::Within(locals(scene.alloc, local)?, e, turn))
         }
         Ok(ControlMove::Unless(symbol, e)) => {
-            if defs.shared().find(symbol).is_some() {
+            if is_shared(defs.shared(), symbol) {
                 *used = true;
                 return Ok(Move::Done(e));
             }

@@ -1,13 +1,16 @@
 //! Module over the definitions.
-ghost use Rattle.std.specs.Prelude.{◌≡◌, Bool};
+ghost use Rattle.std.specs.Prelude.{◌≡◌, Bool, IfOk, None};
+ghost use Rattle.semantics.specs.Names as n;
 ghost use Rattle.semantics.specs.Program.{Prog};
 ghost use Rattle.semantics.specs.declared.builtin.Builtin as b;
 ghost use Rattle.semantics.specs.Table as t;
 ghost use Rattle.builtin_names.specs.Named.{HasBuiltins, names_in};
 ghost use Rattle.frame_steps.specs.Setup.{setting_of};
 ghost use Rattle.frame_steps.specs.Steps.{Falls, Starts, Stepped};
+ghost use Rattle.frames_scope.specs.Left as left;
+ghost use Rattle.frames_scope.specs.Reading.{locals_in};
 ghost use Rattle.row_frames.specs.Frames as f;
-ghost use Rattle.row_frames.specs.Rows.{left_module};
+ghost use Rattle.row_frames.specs.Rows.{left_module, numbered_form};
 ghost use Rattle.row_frames.specs.Asking.{asks};
 
 use crate::frame::Frame;
@@ -29,6 +32,28 @@ pub enum ModuleRow {
     Numbered(Module),
 }
 
+/// A Module with this number.
+fn numbered(alloc: Global, scope: &mut Scope, number: u64) -> Result<Module, AllocError>
+    ensures { (names : n.Names) → IfOk result (λ m. left.left_module names m None ≡ numbered_form names number (locals_in scope.old.locals) scope.old.body) }
+{
+    let locals = mem::replace(&mut scope.locals, Items::new(alloc));
+    let body = scope.body.copy(alloc)?;
+    Ok(Module::start(alloc, Scope { locals, body }, number))
+}
+
+fn step_module(
+    form: &mut Module,
+    scene: &Scene,
+    defs: &mut Defs,
+    answer: Option<Expr>,
+) -> Result<Move, Halt>
+    ensures stepped { (stay : Prog) (used : Bool) → Stepped (setting_of scene.now) (left.left_module (names_in scene.now.names.now) form.old answer) stay defs.old used result (left.left_module (names_in scene.now.names.now) form.new) defs.new used }
+    ensures falls { Falls result (asks (left.left_module (names_in scene.now.names.now) form.old answer)) (λ v. asks (left.left_module (names_in scene.now.names.now) form.new v)) }
+{
+    let moved = form.step(scene.alloc, answer);
+    whole(scene, defs, moved)
+}
+
 impl ModuleRow {
     /// A Module before its first step.
     pub(crate) fn start(
@@ -39,7 +64,8 @@ impl ModuleRow {
         requires names { HasBuiltins names.now }
         ensures { Starts (f.left (names_in names.now)) (λ stay. t.row (names_in names.now) b.Builtin.Module stay items.now) result }
     {
-        match module_scope(alloc, names, items)? {
+        let read = module_scope(alloc, names, items)?;
+        match read {
             Some(scope) => Ok(Some(Frame::Module(ModuleRow::Unnumbered(scope)))),
             None => Ok(None),
         }
@@ -60,17 +86,12 @@ impl ModuleRow {
                 let Some(number) = defs.next_module() else {
                     return Err(Halt::Stopped(Stop::Range));
                 };
-                let locals = mem::replace(&mut scope.locals, Items::new(scene.alloc));
-                let body = scope.body.copy(scene.alloc)?;
-                let mut module = Module::start(scene.alloc, Scope { locals, body }, number);
-                let moved = module.step(scene.alloc, None);
-                *self = ModuleRow::Numbered(module);
-                whole(scene, defs, moved)
+                let mut form = numbered(scene.alloc, scope, number)?;
+                let result = step_module(&mut form, scene, defs, None);
+                *self = ModuleRow::Numbered(form);
+                result
             }
-            ModuleRow::Numbered(module) => {
-                let moved = module.step(scene.alloc, answer);
-                whole(scene, defs, moved)
-            }
+            ModuleRow::Numbered(form) => step_module(form, scene, defs, answer),
         }
     }
 }

@@ -1,16 +1,17 @@
-//! Results that are made.
+//! Results that are made, and whether a symbol is shared.
 ghost use Rattle.std.specs.Prelude.{◌≡◌};
 ghost use Rattle.expr_tree.specs.Limits.{Assembles};
 ghost use Rattle.expr_tree.specs.Tree.{Tree};
 ghost use Rattle.semantics.specs.InPlace.{put_in_place};
 ghost use Rattle.evaluation_steps.specs.Stopping.{AreBounded, Checked};
 ghost use Rattle.builtin_names.specs.Named.{names_in};
-ghost use Rattle.row_frames.specs.Results.{done_of};
+ghost use Rattle.row_frames.specs.Results.{done_of, is_shared};
 
 use evaluation_steps::{Halt, fits, stop_for};
-use expr_tree::{Built, Expr, Limits};
+use expr_tree::{Built, Expr, Limits, Sym};
 use frame_steps::{Move, Scene};
 use frames_scope::place;
+use shared_calls::Shared;
 use substitution::Bindings;
 
 /// An expression that was made, where it is within the limits.
@@ -42,4 +43,11 @@ pub(crate) fn done(made: Result<Expr, Halt>) -> Result<Move, Halt>
         Ok(e) => Ok(Move::Done(e)),
         Err(halt) => Err(halt),
     }
+}
+
+/// Whether a symbol is shared.
+pub(crate) fn is_shared(shared: &Shared, symbol: Sym) -> bool
+    ensures { result ≡ is_shared shared.now symbol }
+{
+    shared.find(symbol).is_some()
 }

@@ -85,8 +85,14 @@ fn each_module_has_a_number_of_its_own(rt: HostRuntime) -> Result<(), Fail> {
     let names = table(rt.alloc())?;
     let mut defs = Defs::new(rt.alloc())?;
     let mut first = begin(rt.alloc(), &names, Builtin::Module)?;
-    assert_eq!(rt; number_of(rt.alloc(), &names, &mut first, &mut defs), Some(1));
+    assert_eq!(rt;
+        number_of(rt.alloc(), &names, &mut first, &mut defs),
+        Some(1)
+    );
     let mut second = begin(rt.alloc(), &names, Builtin::Module)?;
-    assert_eq!(rt; number_of(rt.alloc(), &names, &mut second, &mut defs), Some(2));
+    assert_eq!(rt;
+        number_of(rt.alloc(), &names, &mut second, &mut defs),
+        Some(2)
+    );
     Ok(())
 }
