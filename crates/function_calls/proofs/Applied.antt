@@ -1,5 +1,5 @@
 -- What the application of a Function comes to.
-use Rattle.std.proofs.Common.{◌≡◌, ◌≢◌, refl, ap, sym, subst, ◌∙◌, Bool, true, false, List, [], ◌∷◌, Option, Some, None, Result, Ok, Err}
+use Rattle.std.proofs.Common.{◌≡◌, ◌≢◌, refl, ap, sym, subst, ◌∙◌, Bool, true, false, List, [], ◌∷◌, Option, Some, None, Result, Ok, Err, length, get_or, arith}
 use Rattle.expr_tree.specs.declared.sym.Sym.{Sym}
 use Rattle.expr_tree.specs.Tree.{Tree}
 use Rattle.expr_tree.specs.Substitution.{Binding}
@@ -85,13 +85,21 @@ bound names x body args ss b r is different some works =
 
 pub ruleset named_steps = (no_memory, no_parameters, not_different, too_few, bound)
 
-pub pure : (names : Names) (body : Tree) (args : List Tree) (r : Result (Option Tree) Fault) → Works (Gives (fill_slots names args body)) r → Applies names (body ∷ []) args r
-pure names body args r works = answered names (body ∷ []) args (Gives (fill_slots names args body)) r refl works
+pub pure : (names : Names) (parts args : List Tree) (body : Tree) (r : Result (Option Tree) Fault) → length parts ≡ 1 → body ≡ get_or parts 0 body → Works (Gives (fill_slots names args body)) r → Applies names parts args r
+pure names [] args body r one is works = absurd (omega (arith, one))
+pure names (e ∷ []) args body r one is works = answered names (e ∷ []) args (Gives (fill_slots names args body)) r (ap (λ f. Gives (fill_slots names args f)) (sym is)) works
+pure names (e ∷ f ∷ es) args body r one is works = absurd (omega (arith, one))
 
-pub no_elements : (names : Names) (args : List Tree) → Applies names [] args (Ok None)
-no_elements names args = answered names [] args Stays (Ok None) refl (record { by = tt })
+pub two : (names : Names) (parts args : List Tree) (x body : Tree) (r : Result (Option Tree) Fault) → length parts ≡ 2 → x ≡ get_or parts 0 x → body ≡ get_or parts 1 body → Applies names (x ∷ body ∷ []) args r → Applies names parts args r
+two names [] args x body r long a b applies = absurd (omega (arith, long))
+two names (e ∷ []) args x body r long a b applies = absurd (omega (arith, long))
+two names (e ∷ f ∷ []) args x body r long a b applies = subst (λ ps. Applies names ps args r) (λ i. a i ∷ b i ∷ []) applies
+two names (e ∷ f ∷ g ∷ es) args x body r long a b applies = absurd (omega (arith, long))
 
-pub more_elements : (names : Names) (x y z : Tree) (parts args : List Tree) → Applies names (x ∷ y ∷ z ∷ parts) args (Ok None)
-more_elements names x y z parts args = answered names (x ∷ y ∷ z ∷ parts) args Stays (Ok None) refl (record { by = tt })
+pub other : (names : Names) (parts args : List Tree) → length parts ≢ 1 → length parts ≢ 2 → Applies names parts args (Ok None)
+other names [] args one long = answered names [] args Stays (Ok None) refl (record { by = tt })
+other names (e ∷ []) args one long = absurd (one refl)
+other names (e ∷ f ∷ []) args one long = absurd (long refl)
+other names (e ∷ f ∷ g ∷ es) args one long = answered names (e ∷ f ∷ g ∷ es) args Stays (Ok None) refl (record { by = tt })
 
-pub ruleset apply_steps = (pure, no_elements, more_elements)
+pub ruleset apply_steps = (no_memory, pure, two, other)

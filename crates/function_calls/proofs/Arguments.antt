@@ -1,6 +1,7 @@
 -- Parameters and their arguments, in order.
-use Rattle.std.proofs.Common.{◌≡◌, ℕ, zero, suc, ◌+◌, ◌<◌, ◌≤◌, refl, ap, sym, ◌∙◌, Bool, true, false, List, [], ◌∷◌, ◌++◌, Option, Some, None, length, get_or, take, drop, drop-cons, add-one, append_assoc, arith}
+use Rattle.std.proofs.Common.{◌≡◌, ℕ, zero, suc, ◌+◌, ◌-◌, ◌<◌, ◌≤◌, refl, ap, sym, ◌∙◌, Bool, true, false, List, [], ◌∷◌, ◌++◌, Option, Some, None, length, get_or, take, drop, drop-cons, add-one, append_assoc, append-nil, arith}
 use Rattle.std.specs.Bool.{IsTrue}
+use Rattle.std.proofs.lemmas.List.{length-drop, drop-drop, drop_all, take_all, get_or_default}
 use Rattle.expr_tree.specs.declared.sym.Sym.{Sym}
 use Rattle.expr_tree.specs.Tree.{Tree, symbol, integer, string, normal}
 use Rattle.expr_tree.specs.Substitution.{Binding}
@@ -19,7 +20,7 @@ behind_nothing None = refl
 behind_nothing (Some more) = refl
 
 pub behind_last : {X : Type 0} (done : List X) → behind done (Some []) ≡ Some done
-behind_last done = ?
+behind_last done = ap Some (append-nil done)
 
 next : {X : Type 0} (xs : List X) (i : ℕ) (x : X) → i < length xs → x ≡ get_or xs i x → drop i xs ≡ x ∷ drop (i + 1) xs
 next xs i x p is = rw (drop-cons xs i x p, add-one) (ap (λ u. u ∷ drop (suc i) xs) (sym is))
@@ -81,8 +82,33 @@ pairs_none [] args few = absurd (omega (arith, few))
 pairs_none (s ∷ ss) [] few = refl
 pairs_none (s ∷ ss) (e ∷ es) few = ap (λ o. elim o as (λ _. Option Binding) [ None ↦ None | Some b ↦ Some ((s, e ∷ []) ∷ b) ]) (pairs_none ss es (omega (arith, few)))
 
-pub pairs_more : (ss : List Sym) (args : List Tree) (i : ℕ) (s : Sym) (done : Binding) → i < length ss → i < length args → s ≡ get_or ss i s
+pairs_more : (ss : List Sym) (args : List Tree) (i : ℕ) (s : Sym) (done : Binding) → i < length ss → i < length args → s ≡ get_or ss i s
     → behind done (paired (drop i ss) (drop i args)) ≡ behind (done ++ (s, take 1 (drop i args)) ∷ []) (paired (drop (i + 1) ss) (drop (i + 1) args))
-pairs_more ss args i s done inside within is = ?
+pairs_more ss args i s done inside within is =
+    ap (λ ts. behind done (paired ts (drop i args))) (next ss i s inside is) ∙ go (drop i args) some ∙ ap (λ es. behind (done ++ (s, take 1 (drop i args)) ∷ []) (paired (drop (i + 1) ss) es)) (drop-drop 1 i args)
+  where
+    some : 1 ≤ length (drop i args)
+    some = let l : length (drop i args) ≡ length args - i = length-drop i args in omega (arith, l, within)
 
-pub ruleset pair_steps = (tree_steps, behind_nothing, behind_last, pairs_none, pairs_more)
+    go : (es : List Tree) → 1 ≤ length es → behind done (paired (s ∷ drop (i + 1) ss) es) ≡ behind (done ++ (s, take 1 es) ∷ []) (paired (drop (i + 1) ss) (drop 1 es))
+    go [] p = absurd (omega (arith, p))
+    go (e ∷ es) p = one_more done (s, e ∷ []) (paired (drop (i + 1) ss) es)
+
+pairs_kept : (ss : List Sym) (args run : List Tree) (i : ℕ) (s : Sym) (done longer : Binding) → longer ≡ done ++ (s, run) ∷ [] → run ≡ take 1 (drop i args) → behind done (paired (drop i ss) (drop i args)) ≡ paired ss args → i < length ss → length ss ≤ length args
+    → s ≡ get_or ss i s → behind longer (paired (drop (i + 1) ss) (drop (i + 1) args)) ≡ paired ss args
+pairs_kept ss args run i s done longer pushed taken whole inside enough is =
+    ap (λ bs. behind bs (paired (drop (i + 1) ss) (drop (i + 1) args))) pushed
+    ∙ ap (λ es. behind (done ++ (s, es) ∷ []) (paired (drop (i + 1) ss) (drop (i + 1) args))) taken
+    ∙ sym (pairs_more ss args i s done inside (omega (arith, inside, enough)) is) ∙ whole
+
+pub pairs_kept_at : (ss : List Sym) (args run : List Tree) (i : ℕ) (d : Sym) (done longer : Binding) → longer ≡ done ++ (get_or ss i d, run) ∷ [] → run ≡ take 1 (take (length args - i) (drop i args)) → behind done (paired (drop i ss) (drop i args)) ≡ paired ss args
+    → i < length ss → length ss ≤ length args → behind longer (paired (drop (i + 1) ss) (drop (i + 1) args)) ≡ paired ss args
+pairs_kept_at ss args run i d done longer pushed taken whole inside enough =
+    let l : length (drop i args) ≡ length args - i = length-drop i args in
+    let t : take (length args - i) (drop i args) ≡ drop i args = take_all (length args - i) (drop i args) (omega (arith, l)) in
+    pairs_kept ss args run i (get_or ss i d) done longer pushed (taken ∙ ap (take 1) t) whole inside enough (get_or_default ss i d (get_or ss i d) inside)
+
+pub pairs_end : (ss : List Sym) (args : List Tree) (i : ℕ) (done : Binding) → length ss ≤ i → behind done (paired (drop i ss) (drop i args)) ≡ Some done
+pairs_end ss args i done all = ap (λ ts. behind done (paired ts (drop i args))) (drop_all i ss all) ∙ ap Some (append-nil done)
+
+pub ruleset pair_steps = (tree_steps, behind_nothing, pairs_none, pairs_end)

@@ -1,7 +1,7 @@
 //! The application of a Function to arguments.
 #![tactic(auto)]
 
-mod apply;
+mod calls;
 mod count;
 mod fill;
 mod parameters;
@@ -9,4 +9,4 @@ mod slots;
 #[cfg(test)]
 mod tests;
 
-pub use apply::apply;
+pub use calls::apply;

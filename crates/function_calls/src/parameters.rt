@@ -82,7 +82,7 @@ pub(crate) fn paired(
     }
     let mut bindings = Items::new(alloc);
     for (i, symbol) in symbols.iter().enumerate() {
-        bindings.push((*symbol, copies(alloc, &args[i..i + 1])?))?;
+        bindings.push((*symbol, copies(alloc, &args[i..][..1])?))?;
     }
     Ok(Some(bindings))
 }

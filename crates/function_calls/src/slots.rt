@@ -23,15 +23,15 @@ pub(crate) fn is_slot(names: &Names, e: &Expr) -> bool
 }
 
 /// Whether this head and these elements make a Function of one element, which has slots of its own.
-#[tactic(auto, using(expr_tree::proofs::Callers::tree_steps))]
+#[tactic(auto, using(crate::proofs::Filling::function_steps))]
 pub(crate) fn is_pure_function(names: &Names, head: &Expr, items: &[Expr]) -> bool
     requires names { HasBuiltins names.now }
     ensures { result ≡ i.is_pure_function (names_in names.now) head.now (trees items.now) }
 {
-    match items {
-        [_] => is_name(names, Builtin::Function, head),
-        _ => false,
+    if items.len() != 1 {
+        return false;
     }
+    is_name(names, Builtin::Function, head)
 }
 
 /// The place, from 0, that the number of a slot names.

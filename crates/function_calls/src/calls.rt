@@ -83,9 +83,11 @@ pub fn apply(
     requires names { HasBuiltins names.now }
     ensures { Applies (names_in names.now) parts.now args.now result }
 {
-    match parts {
-        [body] => filled(alloc, names, args, body),
-        [first, body] => apply_named(alloc, names, first, body, args),
-        _ => Ok(None),
+    if parts.len() == 1 {
+        return filled(alloc, names, args, &parts[0]);
     }
+    if parts.len() != 2 {
+        return Ok(None);
+    }
+    apply_named(alloc, names, &parts[0], &parts[1], args)
 }
