@@ -1,0 +1,5 @@
+pub mod Rows
+pub mod Asked
+pub mod Left
+pub mod Found
+pub mod Shapes
