@@ -1,0 +1,1 @@
+Total[Table[i i, {i, 100000}]]

@@ -1,0 +1,1 @@
+Length[Range[3999998]]
