@@ -7,11 +7,12 @@ ghost use Rattle.semantics.specs.Table as t;
 ghost use Rattle.builtin_names.specs.Named.{HasBuiltins, names_in};
 ghost use Rattle.frame_steps.specs.Setup.{setting_of};
 ghost use Rattle.frame_steps.specs.Steps.{Falls, Starts, Stepped};
-ghost use Rattle.row_frames.specs.Frames.{has_frame, left, questions};
+ghost use Rattle.row_frames.specs.Frames.{has_form, has_frame, left, questions};
 
 use crate::block_row::BlockRow;
 use crate::control_row::{start_control, step_control};
 use crate::module_row::ModuleRow;
+use crate::other_rows::iterating;
 use crate::rule_trial::step_rules;
 use crate::with_row::{start_with, step_with};
 use evaluation_steps::Halt;
@@ -19,6 +20,7 @@ use expr_tree::Expr;
 use frame_steps::{Move, Scene};
 use frames_control::{Form, Frame as Control};
 use frames_scope::With;
+use iterator_frames::Iteration;
 use kernel_defs::Defs;
 use name_table::Names;
 use rule_frames::Attempt;
@@ -34,6 +36,40 @@ pub enum Frame {
     Block(BlockRow),
     With(With),
     Rules(Attempt),
+    Iteration(Iteration),
+}
+
+/// The machine of a control form or of a scoping form.
+fn start_form(
+    alloc: Global,
+    names: &Names,
+    row: Builtin,
+    items: &[Expr],
+) -> Option<Result<Option<Frame>, AllocError>>
+    requires names { HasBuiltins names.now }
+    ensures known { is_some result ≡ has_form row }
+    ensures starts { IfSome result (λ r. Starts (left (names_in names.now)) (λ stay. t.row (names_in names.now) row stay items.now) r) }
+{
+    match row {
+        Builtin::CompoundExpression => {
+            Some(start_control(alloc, names, Form::CompoundExpression, items))
+        }
+        Builtin::If => Some(start_control(alloc, names, Form::If, items)),
+        Builtin::Which => Some(start_control(alloc, names, Form::Which, items)),
+        Builtin::And => Some(start_control(alloc, names, Form::And, items)),
+        Builtin::Or => Some(start_control(alloc, names, Form::Or, items)),
+        Builtin::While => Some(start_control(alloc, names, Form::While, items)),
+        Builtin::Nest => Some(start_control(alloc, names, Form::Nest, items)),
+        Builtin::NestList => Some(start_control(alloc, names, Form::NestList, items)),
+        Builtin::Fold => Some(start_control(alloc, names, Form::Fold, items)),
+        Builtin::FoldList => Some(start_control(alloc, names, Form::FoldList, items)),
+        Builtin::FixedPoint => Some(start_control(alloc, names, Form::FixedPoint, items)),
+        Builtin::Select => Some(start_control(alloc, names, Form::Select, items)),
+        Builtin::Module => Some(ModuleRow::start(alloc, names, items)),
+        Builtin::Block => Some(BlockRow::start(alloc, names, items)),
+        Builtin::With => Some(start_with(alloc, names, items)),
+        _ => None,
+    }
 }
 
 impl Frame {
@@ -48,25 +84,12 @@ impl Frame {
         ensures known { is_some result ≡ has_frame row }
         ensures starts { IfSome result (λ r. Starts (left (names_in names.now)) (λ stay. t.row (names_in names.now) row stay items.now) r) }
     {
-        match row {
-            Builtin::CompoundExpression => {
-                Some(start_control(alloc, names, Form::CompoundExpression, items))
-            }
-            Builtin::If => Some(start_control(alloc, names, Form::If, items)),
-            Builtin::Which => Some(start_control(alloc, names, Form::Which, items)),
-            Builtin::And => Some(start_control(alloc, names, Form::And, items)),
-            Builtin::Or => Some(start_control(alloc, names, Form::Or, items)),
-            Builtin::While => Some(start_control(alloc, names, Form::While, items)),
-            Builtin::Nest => Some(start_control(alloc, names, Form::Nest, items)),
-            Builtin::NestList => Some(start_control(alloc, names, Form::NestList, items)),
-            Builtin::Fold => Some(start_control(alloc, names, Form::Fold, items)),
-            Builtin::FoldList => Some(start_control(alloc, names, Form::FoldList, items)),
-            Builtin::FixedPoint => Some(start_control(alloc, names, Form::FixedPoint, items)),
-            Builtin::Select => Some(start_control(alloc, names, Form::Select, items)),
-            Builtin::Module => Some(ModuleRow::start(alloc, names, items)),
-            Builtin::Block => Some(BlockRow::start(alloc, names, items)),
-            Builtin::With => Some(start_with(alloc, names, items)),
-            _ => None,
+        if let Some(started) = start_form(alloc, names, row, items) {
+            return Some(started);
+        }
+        match iterator_frames::start(alloc, names, row, items) {
+            Some(started) => Some(iterating(started)),
+            None => None,
         }
     }
 
@@ -94,6 +117,7 @@ impl Frame {
             Frame::Block(form) => form.step(scene, defs, used, answer),
             Frame::With(form) => step_with(form, scene, defs, answer),
             Frame::Rules(attempt) => step_rules(attempt, scene, defs, answer),
+            Frame::Iteration(form) => form.step(scene, defs, used, answer),
         }
     }
 }

@@ -5,6 +5,7 @@ mod block_row;
 mod control_row;
 mod frame;
 mod module_row;
+mod other_rows;
 mod results;
 mod rule_trial;
 mod scoped;

@@ -26,3 +26,8 @@ pub returns-in-Rules-clause-stepped : goal.returns-in-Rules-clause-stepped
 returns-in-Rules-clause-stepped c = λ stay.
     let is : c.args.self.now ≡ Frame.Rules c.in-Rules.attempt = cc in
     rw is (c.step_rules.ensures.stepped stay c.args.used.now)
+
+pub returns-in-Iteration-clause-stepped : goal.returns-in-Iteration-clause-stepped
+returns-in-Iteration-clause-stepped c = λ stay.
+    let is : c.args.self.now ≡ Frame.Iteration c.in-Iteration.form = cc in
+    rw is (c.step-in-Iteration.ensures.stepped stay)

@@ -1,0 +1,23 @@
+//! Machines of other crates as machines of this one.
+ghost use Rattle.semantics.specs.Names as n;
+ghost use Rattle.semantics.specs.Program.{Prog};
+ghost use Rattle.frame_steps.specs.Steps.{Starts};
+ghost use Rattle.iterator_frames.specs.Left as iteration;
+ghost use Rattle.row_frames.specs.Frames as f;
+
+use crate::frame::Frame;
+use iterator_frames::Iteration;
+use std::alloc::AllocError;
+
+/// A form with an iterator.
+pub(crate) fn iterating(
+    started: Result<Option<Iteration>, AllocError>,
+) -> Result<Option<Frame>, AllocError>
+    ensures { (names : n.Names) (p : Prog → Prog) → Starts (iteration.left names) p started → Starts (f.left names) p result }
+{
+    match started {
+        Ok(Some(form)) => Ok(Some(Frame::Iteration(form))),
+        Ok(None) => Ok(None),
+        Err(error) => Err(error),
+    }
+}
