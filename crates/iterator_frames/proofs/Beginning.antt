@@ -1,5 +1,5 @@
 -- A form before its first question.
-use Rattle.std.proofs.Common.{◌≡◌, ◌∙◌, ◌≤◌, refl, ap, sym, length, get_or, drop, Bool, true, false, List, [], ◌∷◌, Option, Some, None, arith}
+use Rattle.std.proofs.Common.{◌≡◌, ◌∙◌, ◌≤◌, ap, sym, length, get_or, drop, Bool, true, false, List, [], ◌∷◌, Option, None, arith}
 use Rattle.expr_tree.specs.declared.sym.Sym.{Sym}
 use Rattle.expr_tree.specs.Tree.{Tree}
 use Rattle.semantics.specs.declared.builtin.Builtin.{Builtin}

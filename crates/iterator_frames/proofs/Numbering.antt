@@ -7,7 +7,7 @@ use Rattle.std.proofs.lemmas.Bool.Decides.{Decides-int_eq}
 use Rattle.expr_tree.specs.Tree.{Tree, integer}
 use Rattle.semantics.specs.Names.{Names}
 use Rattle.semantics.specs.Program.{Prog}
-use Rattle.semantics.specs.Control.{From, steps_to, unless_zero}
+use Rattle.semantics.specs.Control.{From, steps_to}
 use Rattle.semantics.specs.Lists.{count_up}
 use Rattle.iterator_frames.specs.declared.body.Body.{Body}
 use Rattle.iterator_frames.specs.declared.walk.Walk.{Walk}

@@ -1,5 +1,5 @@
 -- Steps, from the program that they are the head of.
-use Rattle.std.proofs.Common.{◌≡◌, ◌∙◌, ◌≤◌, ◌<◌, inr, ap, refl, subst, sym, ℕ, Bool, true, false, Option, Some, None, Result, Ok, Err, arith}
+use Rattle.std.proofs.Common.{◌≡◌, ◌≤◌, ◌<◌, inr, ap, refl, subst, sym, ℕ, Bool, Option, Result, Ok, Err, arith}
 use Rattle.expr_tree.specs.Tree.{Tree}
 use Rattle.semantics.specs.Definitions.{Definitions}
 use Rattle.semantics.specs.Program.{Prog, Done}

@@ -1,12 +1,11 @@
 -- The body for each value.
-use Rattle.std.proofs.Common.{◌≡◌, ◌∙◌, refl, sym, ap, ℕ, zero, suc, ℤ, ◌+ℤ◌, List, [], ◌∷◌, length, ◌<◌, Option, Some, None, arith}
+use Rattle.std.proofs.Common.{◌≡◌, ◌∙◌, refl, sym, ap, ℕ, zero, suc, ℤ, ◌+ℤ◌, List, [], ◌∷◌, Option, None}
 use Rattle.std.proofs.Math.Path.{fun_ext}
 use Rattle.expr_tree.specs.declared.sym.Sym.{Sym}
 use Rattle.expr_tree.specs.Tree.{Tree, integer}
-use Rattle.semantics.specs.declared.builtin.Builtin.{Builtin}
-use Rattle.semantics.specs.Names.{Names, make}
+use Rattle.semantics.specs.Names.{Names}
 use Rattle.semantics.specs.Program.{Prog, Turn, Within}
-use Rattle.semantics.specs.Control.{From, Each, locals, over_numbers, over_list, inner_form}
+use Rattle.semantics.specs.Control.{From, locals, over_numbers, over_list}
 use Rattle.semantics.specs.Lists.{count_up}
 use Rattle.iterator_frames.specs.declared.body.Body.{Body}
 use Rattle.iterator_frames.specs.declared.body.Form.{Form}
@@ -23,9 +22,6 @@ counted i e d (suc n) a done k = ap (λ (f : Tree → Prog). Turn (Within (local
 pub walks_numbers : (names : Names) (b : Body) (w : Walk) (a d : ℤ) (n : ℕ) → values_in w ≡ count_up a d n → goes names b (From a d n) ≡ left_going names b (record { walk = w; done = [] }) None
 walks_numbers names b w a d n is = counted b.symbol b.expression d n a [] (finish names b.form) ∙ ap (λ (es : List Tree). over_list b.symbol b.expression es [] (finish names b.form)) (sym is)
 
-pub walks_elements : (names : Names) (b : Body) (w : Walk) (es : List Tree) → values_in w ≡ es → goes names b (Each es) ≡ left_going names b (record { walk = w; done = [] }) None
-walks_elements names b w es is = ap (λ (es : List Tree). over_list b.symbol b.expression es [] (finish names b.form)) (sym is)
-
 -- Do does not look at the values
 dropped : (names : Names) (i : Option Sym) (e : Tree) (es done kept : List Tree) → over_list i e es done (finish names Form.Do) ≡ over_list i e es kept (finish names Form.Do)
 dropped names i e [] done kept = refl
@@ -33,12 +29,3 @@ dropped names i e (x ∷ es) done kept = ap (λ (f : Tree → Prog). Turn (Withi
 
 pub forgets : (names : Names) (b : Body) (g : Going) (answer : Option Tree) → b.form ≡ Form.Do → left_going names b g answer ≡ left_going names b g None
 forgets names b g answer is = rw is (dropped names b.symbol b.expression (values_in g.walk) (noted answer g.done) g.done)
-
--- further iterators stand in the expression
-pub one_iterator : (names : Names) (row : Builtin) (e : Tree) (its : List Tree) → length its ≡ 0 → inner_form names row e its ≡ e
-one_iterator names row e [] h = refl
-one_iterator names row e (it ∷ its) h = absurd (omega arith)
-
-pub more_iterators : (names : Names) (row : Builtin) (e : Tree) (its : List Tree) → 0 < length its → inner_form names row e its ≡ make names row (e ∷ its)
-more_iterators names row e [] h = absurd (omega arith)
-more_iterators names row e (it ∷ its) h = refl

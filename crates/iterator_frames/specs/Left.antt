@@ -1,5 +1,5 @@
 -- What the machine of an iterator stands for: the program that is left, before an answer and after, and the questions that are left.
-use Rattle.std.specs.Prelude.{ℕ, ◌+◌, ◌^◌, length, List, [], ◌∷◌, Option, Some, None}
+use Rattle.std.specs.Prelude.{ℕ, ◌+◌, ◌^◌, length, List, ◌∷◌, Option, Some, None}
 use Rattle.expr_tree.specs.Tree.{Tree}
 use Rattle.semantics.specs.Names.{Names}
 use Rattle.semantics.specs.Program.{Prog}

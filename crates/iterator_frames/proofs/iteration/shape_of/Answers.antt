@@ -1,4 +1,4 @@
-use Rattle.std.proofs.Common.{◌≡◌, ◌∙◌, ◌<◌, sym, ap, false, length, arith}
+use Rattle.std.proofs.Common.{◌≡◌, ◌∙◌, ◌<◌, sym, ap, length, arith}
 use Rattle.expr_tree.specs.Tree.{symbol}
 use Rattle.expr_tree.specs.View.{tree_of}
 use Rattle.iterator_frames.proofs.Shaping.{symbol_parts, nonempty, rest_of}
