@@ -1,0 +1,6 @@
+pub mod Rows
+pub mod Results
+pub mod Named
+pub mod Shapes
+pub mod Single
+pub mod Left

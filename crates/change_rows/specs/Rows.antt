@@ -1,0 +1,14 @@
+-- The rows that change definitions.
+--     is_change
+use Rattle.std.specs.Prelude.{Bool, true, false}
+use Rattle.semantics.specs.declared.builtin.Builtin.{Builtin}
+
+abbrev pub is_change : Builtin → Bool
+is_change Builtin.Clear = true
+is_change Builtin.ClearAll = true
+is_change Builtin.SetAttributes = true
+is_change Builtin.ClearAttributes = true
+is_change Builtin.Attributes = true
+is_change Builtin.Protect = true
+is_change Builtin.Unprotect = true
+is_change _ = false

@@ -1,0 +1,25 @@
+//! What a step reads of definitions and of the mode.
+ghost use Rattle.std.specs.Prelude.{◌≡◌, ◌||◌, is_some};
+ghost use Rattle.semantics.specs.Play.{seen};
+ghost use Rattle.builtin_names.specs.Named.{names_in};
+
+use expr_tree::Sym;
+use frame_steps::Scene;
+use kernel_defs::Defs;
+
+/// Whether a symbol is shared.
+pub(crate) fn is_shared(scene: &Scene, defs: &Defs, symbol: Sym) -> bool
+    ensures { result ≡ is_some (seen (names_in scene.now.names.now) defs.now symbol).shared }
+{
+    let _names = scene.names;
+    defs.shared().kind_of(symbol).is_some()
+}
+
+/// Mode and kernel matter from the use of a shared symbol on.
+pub(crate) fn note_use(used: &mut bool, shared: bool)
+    ensures { used.new ≡ (shared || used.old) }
+{
+    if shared {
+        *used = true;
+    }
+}
