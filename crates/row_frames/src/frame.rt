@@ -12,9 +12,10 @@ ghost use Rattle.row_frames.specs.Frames.{has_form, has_frame, left, questions};
 use crate::block_row::BlockRow;
 use crate::control_row::{start_control, step_control};
 use crate::module_row::ModuleRow;
-use crate::other_rows::iterating;
+use crate::other_rows::{changing, iterating};
 use crate::rule_trial::step_rules;
 use crate::with_row::{start_with, step_with};
+use change_rows::Change;
 use evaluation_steps::Halt;
 use expr_tree::Expr;
 use frame_steps::{Move, Scene};
@@ -37,6 +38,7 @@ pub enum Frame {
     With(With),
     Rules(Attempt),
     Iteration(Iteration),
+    Change(Change),
 }
 
 /// The machine of a control form or of a scoping form.
@@ -87,6 +89,9 @@ impl Frame {
         if let Some(started) = start_form(alloc, names, row, items) {
             return Some(started);
         }
+        if let Some(started) = Change::start(alloc, names, row, items) {
+            return Some(changing(started));
+        }
         match iterator_frames::start(alloc, names, row, items) {
             Some(started) => Some(iterating(started)),
             None => None,
@@ -118,6 +123,7 @@ impl Frame {
             Frame::With(form) => step_with(form, scene, defs, answer),
             Frame::Rules(attempt) => step_rules(attempt, scene, defs, answer),
             Frame::Iteration(form) => form.step(scene, defs, used, answer),
+            Frame::Change(row) => row.step(scene, defs, used, answer),
         }
     }
 }

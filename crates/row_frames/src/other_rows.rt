@@ -2,10 +2,12 @@
 ghost use Rattle.semantics.specs.Names as n;
 ghost use Rattle.semantics.specs.Program.{Prog};
 ghost use Rattle.frame_steps.specs.Steps.{Starts};
+ghost use Rattle.change_rows.specs.Left as change;
 ghost use Rattle.iterator_frames.specs.Left as iteration;
 ghost use Rattle.row_frames.specs.Frames as f;
 
 use crate::frame::Frame;
+use change_rows::Change;
 use iterator_frames::Iteration;
 use std::alloc::AllocError;
 
@@ -17,6 +19,19 @@ pub(crate) fn iterating(
 {
     match started {
         Ok(Some(form)) => Ok(Some(Frame::Iteration(form))),
+        Ok(None) => Ok(None),
+        Err(error) => Err(error),
+    }
+}
+
+/// A row that changes definitions.
+pub(crate) fn changing(
+    started: Result<Option<Change>, AllocError>,
+) -> Result<Option<Frame>, AllocError>
+    ensures { (names : n.Names) (p : Prog → Prog) → Starts (change.left names) p started → Starts (f.left names) p result }
+{
+    match started {
+        Ok(Some(row)) => Ok(Some(Frame::Change(row))),
         Ok(None) => Ok(None),
         Err(error) => Err(error),
     }

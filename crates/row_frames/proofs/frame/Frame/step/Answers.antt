@@ -31,3 +31,8 @@ pub returns-in-Iteration-clause-stepped : goal.returns-in-Iteration-clause-stepp
 returns-in-Iteration-clause-stepped c = λ stay.
     let is : c.args.self.now ≡ Frame.Iteration c.in-Iteration.form = cc in
     rw is (c.step-in-Iteration.ensures.stepped stay)
+
+pub returns-in-Change-clause-stepped : goal.returns-in-Change-clause-stepped
+returns-in-Change-clause-stepped c = λ stay.
+    let is : c.args.self.now ≡ Frame.Change c.in-Change.row = cc in
+    rw is (c.step-in-Change.ensures.stepped stay)
