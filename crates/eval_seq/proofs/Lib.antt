@@ -1,5 +1,8 @@
+pub mod Lost
 pub mod PlainRows
 pub mod Walking
+pub mod RowStarts
+pub mod Driving
 pub mod Smaller
 pub mod Answered
 pub mod Fitting

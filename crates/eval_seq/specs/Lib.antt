@@ -1,7 +1,9 @@
-pub mod Defined
 pub mod Outward
 pub mod Setup
 pub mod Built
 pub mod Walks
 pub mod Sequence
+pub mod Frames
+pub mod Applies
+pub mod Driven
 pub mod Told

@@ -1,20 +1,24 @@
 //! The evaluator: what it does is a run of the program that the definition of an evaluation gives for an expression.
 #![tactic(auto)]
 
+mod apply;
 mod assemble;
 mod call;
 mod context;
-mod defs;
 mod effects;
 mod ending;
 mod evaluate;
+mod frame;
+mod machine;
 mod outward;
+mod put_by;
 mod rows;
 mod steps;
 mod symbols;
 
 pub use call::{Ended, Outcome, eval};
 pub use context::Context;
-pub use defs::Defs;
 pub use ending::Missing;
-pub use outward::{Answer, Mode, Upcall, Want};
+pub use frame_steps::Mode;
+pub use kernel_defs::Defs;
+pub use outward::{Answer, Upcall, Want};
