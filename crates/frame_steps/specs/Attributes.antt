@@ -13,6 +13,12 @@ attrs_seen table d s =
     record {
       flat = has Builtin.Flat (definition_of (names_in table) d s).attributes;
       orderless = has Builtin.Orderless (definition_of (names_in table) d s).attributes;
-      listable = false; hold_first = false; hold_rest = false; hold_all = false;
-      hold_all_complete = false; sequence_hold = false; one_identity = false; protected = false;
+      listable = false;
+      hold_first = false;
+      hold_rest = false;
+      hold_all = false;
+      hold_all_complete = false;
+      sequence_hold = false;
+      one_identity = false;
+      protected = false;
     }

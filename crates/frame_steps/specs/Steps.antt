@@ -5,12 +5,11 @@
 --     Stepped               a step, whatever an evaluation one deeper means
 --     Starts                the machine of a row, before its first step
 --     Falls                 the questions that are left grow fewer
-use Rattle.std.specs.Prelude.{◌≡◌, ◌⊎◌, ◌<◌, ℕ, Bool, List, [], ◌∷◌, Option, Some, None, Result, Ok, Err}
+use Rattle.std.specs.Prelude.{◌≡◌, ◌⊎◌, ◌<◌, ℕ, Bool, List, Option, Some, None, Result, Ok, Err}
 use Rattle.expr_tree.specs.declared.sym.Sym.{Sym}
-use Rattle.expr_tree.specs.declared.limits.Stop.{Stop}
 use Rattle.expr_tree.specs.Tree.{Tree}
 use Rattle.semantics.specs.Definitions.{Definitions}
-use Rattle.semantics.specs.Program.{Prog, Done, Ask, Within, Turn, Local}
+use Rattle.semantics.specs.Program.{Prog, Done, Ask, Within, Turn}
 use Rattle.semantics.specs.Play.{Setting, State, Evaluator, Over, Value, Stopped, Quit, run, too_large}
 use Rattle.evaluation_steps.specs.declared.Halt.{Halt}
 use Rattle.evaluation_steps.specs.Moves.{turning}

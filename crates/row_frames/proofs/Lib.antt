@@ -1,0 +1,4 @@
+pub mod Steps
+pub mod Scopes
+pub mod Falling
+pub mod Trials

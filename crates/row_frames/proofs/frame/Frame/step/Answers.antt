@@ -1,0 +1,28 @@
+use Rattle.std.proofs.Common.{◌≡◌}
+use Rattle.row_frames.specs.declared.frame.Frame.{Frame}
+use Rattle.row_frames.proofs.frame.Frame.step.Goals as goal
+
+pub returns-in-Control-clause-stepped : goal.returns-in-Control-clause-stepped
+returns-in-Control-clause-stepped c = λ stay.
+    let is : c.args.self.now ≡ Frame.Control c.in-Control.form = cc in
+    rw is (c.step_control.ensures.stepped stay)
+
+pub returns-in-Module-clause-stepped : goal.returns-in-Module-clause-stepped
+returns-in-Module-clause-stepped c = λ stay.
+    let is : c.args.self.now ≡ Frame.Module c.in-Module.form = cc in
+    rw is (c.step.ensures.stepped stay c.args.used.now)
+
+pub returns-in-Block-clause-stepped : goal.returns-in-Block-clause-stepped
+returns-in-Block-clause-stepped c = λ stay.
+    let is : c.args.self.now ≡ Frame.Block c.in-Block.form = cc in
+    rw is (c.step-in-Block.ensures.stepped stay)
+
+pub returns-in-With-clause-stepped : goal.returns-in-With-clause-stepped
+returns-in-With-clause-stepped c = λ stay.
+    let is : c.args.self.now ≡ Frame.With c.in-With.form = cc in
+    rw is (c.step_with.ensures.stepped stay c.args.used.now)
+
+pub returns-in-Rules-clause-stepped : goal.returns-in-Rules-clause-stepped
+returns-in-Rules-clause-stepped c = λ stay.
+    let is : c.args.self.now ≡ Frame.Rules c.in-Rules.attempt = cc in
+    rw is (c.step_rules.ensures.stepped stay c.args.used.now)

@@ -1,0 +1,17 @@
+//! Every machine of the evaluator as one, with one step over the definitions.
+#![tactic(auto)]
+
+mod block_row;
+mod control_row;
+mod frame;
+mod module_row;
+mod results;
+mod rule_trial;
+mod scoped;
+#[cfg(test)]
+mod tests;
+mod with_row;
+
+pub use block_row::BlockRow;
+pub use frame::Frame;
+pub use module_row::ModuleRow;
