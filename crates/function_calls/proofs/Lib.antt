@@ -1,0 +1,3 @@
+mod Applied
+mod Filling
+mod Arguments

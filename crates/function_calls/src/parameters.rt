@@ -1,0 +1,88 @@
+//! The parameters of a Function, and their arguments.
+ghost use Rattle.std.specs.Prelude.{◌≡◌, IfOk};
+ghost use Rattle.expr_tree.specs.Substitution.{among};
+ghost use Rattle.semantics.specs.Scoping as s;
+ghost use Rattle.builtin_names.specs.Named.{HasBuiltins, names_in};
+
+use crate::slots::copies;
+use builtin_names::items_under;
+use expr_tree::{Expr, Node, Sym, Syms};
+use item_list::Items;
+use name_table::Names;
+use semantics::Builtin;
+use std::alloc::{AllocError, Global};
+use substitution::Bindings;
+
+fn is_among(symbol: Sym, symbols: &[Sym]) -> bool
+    ensures { result ≡ among symbol symbols.now }
+{
+    for other in symbols {
+        if symbol == *other {
+            return true;
+        }
+    }
+    false
+}
+
+/// Whether no symbol comes twice.
+pub(crate) fn differ(symbols: &[Sym]) -> bool
+    ensures { result ≡ s.differ symbols.now }
+{
+    for (i, symbol) in symbols.iter().enumerate() {
+        if is_among(*symbol, &symbols[i + 1..]) {
+            return false;
+        }
+    }
+    true
+}
+
+/// The symbols that the elements of a list are, where all are symbols.
+#[tactic(auto, using(crate::proofs::Arguments::symbol_steps))]
+fn symbols_in(alloc: Global, items: &[Expr]) -> Result<Option<Syms>, AllocError>
+    ensures { IfOk result (λ r. r ≡ s.symbols_in items.now) }
+{
+    let mut symbols = Items::new(alloc);
+    for item in items {
+        match item.node() {
+            Node::Symbol(symbol) => symbols.push(*symbol)?,
+            _ => return Ok(None),
+        }
+    }
+    Ok(Some(symbols))
+}
+
+/// The parameters that the first of two elements names: itself, or the symbols of a list.
+#[tactic(auto, using(crate::proofs::Arguments::parameter_steps))]
+pub(crate) fn parameters(alloc: Global, names: &Names, e: &Expr) -> Result<Option<Syms>, AllocError>
+    requires names { HasBuiltins names.now }
+    ensures { IfOk result (λ r. r ≡ s.parameters (names_in names.now) e.now) }
+{
+    if let Node::Symbol(symbol) = e.node() {
+        let mut symbols = Items::new(alloc);
+        symbols.push(*symbol)?;
+        return Ok(Some(symbols));
+    }
+    match items_under(names, Builtin::List, e) {
+        Some(items) => symbols_in(alloc, items.as_slice()),
+        None => Ok(None),
+    }
+}
+
+/// Each symbol with its argument. Arguments that are left over are dropped.
+#[tactic(auto, using(crate::proofs::Arguments::pair_steps))]
+pub(crate) fn paired(
+    alloc: Global,
+    symbols: &[Sym],
+    args: &[Expr],
+) -> Result<Option<Bindings>, AllocError>
+    ensures { IfOk result (λ r. r ≡ s.paired symbols.now args.now) }
+{
+    if symbols.len() > args.len() {
+        return Ok(None);
+    }
+    let mut bindings = Items::new(alloc);
+    for (i, symbol) in symbols.iter().enumerate() {
+        bindings.push((*symbol, copies(alloc, &args[i..][..1])?))?;
+    }
+    Ok(Some(bindings))
+}

@@ -1,0 +1,89 @@
+//! Slots, and what stands in their places.
+ghost use Rattle.std.specs.Prelude.{◌≡◌, ◌||◌, IfOk};
+ghost use Rattle.std.specs.Option.{option_map};
+ghost use Rattle.expr_tree.specs.Limits.{Makes};
+ghost use Rattle.expr_tree.specs.Tree.{trees};
+ghost use Rattle.semantics.specs.InPlace as i;
+ghost use Rattle.builtin_names.specs.Named.{HasBuiltins, names_in};
+ghost use Rattle.function_calls.specs.Runs.{with_run};
+
+use builtin_names::{is_call, is_name, items_of, make};
+use expr_tree::{Built, Expr, Exprs, Node};
+use item_list::Items;
+use name_table::Names;
+use semantics::Builtin;
+use std::alloc::{AllocError, Global};
+
+/// Whether an expression is a slot, or a sequence of slots.
+pub(crate) fn is_slot(names: &Names, e: &Expr) -> bool
+    requires names { HasBuiltins names.now }
+    ensures { result ≡ i.is_slot (names_in names.now) e.now }
+{
+    is_call(names, Builtin::Slot, e) || is_call(names, Builtin::SlotSequence, e)
+}
+
+/// Whether this head and these elements make a Function of one element, which has slots of its own.
+#[tactic(auto, using(crate::proofs::Filling::function_steps))]
+pub(crate) fn is_pure_function(names: &Names, head: &Expr, items: &[Expr]) -> bool
+    requires names { HasBuiltins names.now }
+    ensures { result ≡ i.is_pure_function (names_in names.now) head.now (trees items.now) }
+{
+    if items.len() != 1 {
+        return false;
+    }
+    is_name(names, Builtin::Function, head)
+}
+
+/// The place, from 0, that the number of a slot names.
+#[tactic(auto, using(crate::proofs::Filling::number_steps))]
+fn slot_number(items: &[Expr]) -> Option<u128>
+    ensures { result ≡ i.slot_number items.now }
+{
+    let [item] = items else {
+        return None;
+    };
+    match item.node() {
+        Node::Int(number) if *number > 0 => Some(*number as u128 - 1),
+        _ => None,
+    }
+}
+
+/// The arguments that stand for a slot, where it has any.
+#[tactic(auto, using(crate::proofs::Filling::run_steps))]
+pub(crate) fn run_for<'a>(names: &Names, args: &'a [Expr], e: &Expr) -> Option<&'a [Expr]>
+    requires names { HasBuiltins names.now }
+    ensures { with_run (names_in names.now) e.now (option_map (λ run. run.now) result) ≡ i.slot_value (names_in names.now) args.now e.now }
+{
+    let place = slot_number(items_of(e))?;
+    if place >= args.len() as u128 {
+        return None;
+    }
+    let place = place as usize;
+    if is_call(names, Builtin::Slot, e) {
+        Some(&args[place..place + 1])
+    } else {
+        Some(&args[place..])
+    }
+}
+
+/// The elements of a slice.
+pub(crate) fn copies(alloc: Global, items: &[Expr]) -> Result<Exprs, AllocError>
+    ensures { IfOk result (λ es. es ≡ items.now) }
+{
+    let mut made = Items::new(alloc);
+    for item in items {
+        made.push(item.copy(alloc)?)?;
+    }
+    Ok(made)
+}
+
+/// A run as one expression.
+pub(crate) fn as_one(alloc: Global, names: &Names, run: &[Expr]) -> Result<Expr, Built>
+    requires names { HasBuiltins names.now }
+    ensures { Makes (i.as_one (names_in names.now) run.now) result }
+{
+    match run {
+        [only] => Ok(only.copy(alloc)?),
+        _ => make(alloc, names, Builtin::Sequence, copies(alloc, run)?),
+    }
+}
