@@ -16,8 +16,8 @@ use Rattle.frames_scope.specs.Reading.{locals_in}
 use Rattle.frame_steps.specs.Steps as f
 use Rattle.frame_steps.specs.Steps.{headed, state_at, EndsBy, Falls}
 use Rattle.frame_steps.specs.declared.moves.Move.{Move}
-use Rattle.eval_seq.specs.Frames.{left}
-use Rattle.eval_seq.specs.declared.frame.Frame.{Frame}
+use Rattle.row_frames.specs.Frames.{left}
+use Rattle.row_frames.specs.declared.frame.Frame.{Frame}
 use Rattle.frames_scope.specs.declared.locals.Local as l
 use Rattle.eval_seq.specs.declared.ending.Ending.{Ending}
 use Rattle.eval_seq.specs.declared.ending.Missing.{Missing}

@@ -1,4 +1,3 @@
-pub mod Lost
 pub mod PlainRows
 pub mod Walking
 pub mod RowStarts

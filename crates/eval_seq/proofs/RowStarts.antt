@@ -15,8 +15,8 @@ use Rattle.evaluation_steps.specs.declared.Halt.{Halt}
 use Rattle.evaluation_steps.specs.Stopping.{HaltsFor}
 use Rattle.frame_steps.specs.Steps.{Starts}
 use Rattle.element_rows.specs.Rows.{is_kept_here}
-use Rattle.eval_seq.specs.Frames.{has_frame, left}
-use Rattle.eval_seq.specs.declared.frame.Frame.{Frame}
+use Rattle.row_frames.specs.Frames.{has_frame, left}
+use Rattle.row_frames.specs.declared.frame.Frame.{Frame}
 use Rattle.eval_seq.specs.declared.ending.Ending.{Ending}
 use Rattle.eval_seq.specs.declared.ending.Missing.{Missing}
 use Rattle.eval_seq.specs.declared.machine.Start.{Start}

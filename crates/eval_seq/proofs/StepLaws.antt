@@ -18,8 +18,8 @@ use Rattle.semantics.specs.Sections.{unless_access}
 use Rattle.semantics.specs.Table.{row}
 use Rattle.semantics.specs.Pass.{symbol_rules, up_rules, down_rules, row_or_stay, built_in, last_steps, later_steps, left_standing, marked}
 use Rattle.semantics.specs.Play.{Setting, State, run, eval_at, seen}
-use Rattle.eval_seq.specs.Frames.{left}
-use Rattle.eval_seq.specs.declared.frame.Frame.{Frame}
+use Rattle.row_frames.specs.Frames.{left}
+use Rattle.row_frames.specs.declared.frame.Frame.{Frame}
 use Rattle.evaluation_steps.specs.Leads.{Step, Leads, here}
 use Rattle.evaluation_steps.specs.Words.{Reached}
 use Rattle.evaluation_steps.proofs.Laws.{reached_here, reached_on, played_done}

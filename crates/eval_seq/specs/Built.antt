@@ -4,7 +4,7 @@
 use Rattle.std.specs.Prelude.{Bool, true, false, ◌||◌}
 use Rattle.semantics.specs.declared.builtin.Builtin.{Builtin}
 use Rattle.element_rows.specs.Rows.{is_kept_here}
-use Rattle.eval_seq.specs.Frames.{has_frame}
+use Rattle.row_frames.specs.Frames.{has_frame}
 
 abbrev pub is_plain : Builtin → Bool
 is_plain Builtin.Hold = true

@@ -15,7 +15,7 @@ use Rattle.evaluation_steps.specs.Leads.{Step}
 use Rattle.evaluation_steps.specs.Words.{Reached}
 use Rattle.frame_steps.specs.Steps.{headed, Falls}
 use Rattle.frame_steps.specs.declared.moves.Move.{Move}
-use Rattle.eval_seq.specs.Frames.{left}
+use Rattle.row_frames.specs.Frames.{left}
 use Rattle.eval_seq.specs.declared.ending.Ending.{Ending}
 use Rattle.eval_seq.specs.declared.ending.Missing.{Missing}
 use Rattle.eval_seq.specs.declared.machine.Start.{Start}

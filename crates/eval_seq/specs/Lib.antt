@@ -3,7 +3,5 @@ pub mod Setup
 pub mod Built
 pub mod Walks
 pub mod Sequence
-pub mod Frames
-pub mod Applies
 pub mod Driven
 pub mod Told

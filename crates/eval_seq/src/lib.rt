@@ -1,14 +1,12 @@
 //! The evaluator: what it does is a run of the program that the definition of an evaluation gives for an expression.
 #![tactic(auto)]
 
-mod apply;
 mod assemble;
 mod call;
 mod context;
 mod effects;
 mod ending;
 mod evaluate;
-mod frame;
 mod machine;
 mod outward;
 mod put_by;

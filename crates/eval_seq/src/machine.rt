@@ -1,6 +1,6 @@
 //! Machines that the evaluator performs.
-use crate::frame::Frame;
 use expr_tree::Expr;
+use row_frames::Frame;
 
 /// How a step begins.
 #[derive(Drop)]

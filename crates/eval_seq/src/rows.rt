@@ -12,15 +12,15 @@ ghost use Rattle.frame_steps.specs.Setup.{setting_of};
 ghost use Rattle.eval_seq.specs.Built.{is_plain};
 ghost use Rattle.eval_seq.specs.Driven.{Opens};
 
-use crate::apply::apply;
 use crate::ending::{Ending, Missing};
-use crate::frame::Frame;
 use crate::machine::Start;
 use builtin_names::Fault;
 use element_rows::rewrite;
 use evaluation_steps::Halt;
 use expr_tree::{Expr, Exprs, Limits, Stop};
 use frame_steps::Scene;
+use function_calls::apply;
+use row_frames::Frame;
 use semantics::Builtin;
 
 /// Why an evaluation ends where a row makes no result.

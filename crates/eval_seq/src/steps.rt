@@ -11,7 +11,6 @@ ghost use Rattle.eval_seq.specs.Sequence.{head_row, head_rules, Sees};
 
 use crate::context::Going;
 use crate::ending::Ending;
-use crate::frame::Frame;
 use crate::machine::Start;
 use crate::outward::Upcall;
 use crate::rows::{function_start, row_start};
@@ -20,6 +19,7 @@ use builtin_names::{is_name, role_of};
 use expr_tree::{Expr, Exprs, Node, Sym};
 use frame_steps::Scene;
 use kernel_defs::Defs;
+use row_frames::Frame;
 use semantics::Builtin;
 use shared_calls::ShareKind;
 

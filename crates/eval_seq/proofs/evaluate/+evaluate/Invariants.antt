@@ -11,7 +11,7 @@ use Rattle.frame_steps.specs.Setup.{setting_of}
 use Rattle.eval_seq.specs.Setup.{state_of}
 use Rattle.eval_seq.specs.Driven.{driven}
 use Rattle.eval_seq.specs.Sequence.{asking}
-use Rattle.eval_seq.specs.Frames.{left, questions}
+use Rattle.row_frames.specs.Frames.{left, questions}
 use Rattle.eval_seq.proofs.evaluate.+evaluate.Given as goal
 
 abbrev pub decreases-evaluate : goal.decreases-evaluate
