@@ -1,14 +1,14 @@
 -- Evaluation adds no base: the simulation for the relation "the same symbol, with a base below a number".
-use Rattle.std.proofs.Common.{◌≡◌, refl, sym, ap, ◌∙◌, ℕ, ◌+◌, ◌<◌, ◌≤◌, arith, Bool, true, false, ltb, List, true≢false, ltb-true}
+use Rattle.std.proofs.Common.{◌≡◌, refl, sym, ap, ◌∙◌, ℕ, ◌+◌, ◌<◌, arith, false, ltb, List, true≢false, ltb-true}
 use Rattle.std.specs.Prelude.{◌==◌}
 use Rattle.expr_tree.specs.declared.sym.Sym.{Sym}
 use Rattle.expr_tree.specs.Tree.{Tree}
 use Rattle.expr_tree.specs.Order.{symbol_cmp, same_symbol}
 use Rattle.semantics.specs.declared.builtin.Builtin.{Builtin}
-use Rattle.semantics.specs.Names.{Names, is_known, role_of}
+use Rattle.semantics.specs.Names.{is_known, role_of}
 use Rattle.semantics.specs.Definitions.{Definitions}
 use Rattle.semantics.specs.Scoping.{renamed}
-use Rattle.semantics.specs.Play.{Setting, State, Value, Play, Over, Calls, first_cause, last_number, begun}
+use Rattle.semantics.specs.Play.{Setting, State, Play, Over, Calls, first_cause, last_number, begun}
 use Rattle.semantics.specs.Eval.{Event, Ended, over, eval}
 use Rattle.evaluation_relations.proofs.Beyond.{Past, Beyond, put_number, back_number}
 use Rattle.evaluation_relations.proofs.Relation.{Faithful, size-like, depth-like, same-like}
@@ -17,7 +17,7 @@ use Rattle.evaluation_relations.proofs.Kin.{Kin}
 use Rattle.evaluation_relations.proofs.Passes.{pass-both}
 use Rattle.evaluation_relations.proofs.States.{LikeState, seen-like, written-like, put_locals-like, put_back-like}
 use Rattle.number_laws.proofs.Paying.{Paid, Ensures, grew, eval_pays, used_over}
-use Rattle.kept_laws.specs.Kept.{AreKeptIn, IsKeptOutcome, StaysKept, BasesStay}
+use Rattle.kept_laws.specs.Kept.{IsKeptOutcome, StaysKept, BasesStay}
 use Rattle.kept_laws.proofs.Kin.{S, tree-like, definitions-like, tree-kept, definitions-kept}
 
 module _ (set : Setting) (count bound : ℕ) (rows : (row : Builtin) → set.names.place row < count) where
