@@ -1,9 +1,9 @@
 -- The part that a number names.
-use Rattle.std.proofs.Common.{◌≡◌, ◌≢◌, ℕ, zero, suc, ◌+◌, ◌-◌, ◌<◌, ◌≤◌, refl, ap, sym, ◌∙◌, List, [], ◌∷◌, Option, Some, None, length, get_or, arith}
+use Rattle.std.proofs.Common.{◌≡◌, ◌≢◌, ℕ, zero, suc, ◌-◌, ◌<◌, ◌≤◌, refl, ap, sym, ◌∙◌, List, [], ◌∷◌, Some, None, length, get_or, arith}
 use Rattle.std.specs.Prelude.{ℤ, pos, negsuc, nat_abs, reverse, ◌<ℤ◌, ◌≤ℤ◌}
 use Rattle.std.proofs.lemmas.Int.{ints}
 use Rattle.std.proofs.lemmas.List.{length-reverse, get_or-reverse}
-use Rattle.expr_tree.specs.Tree.{Tree, call, elements, trees}
+use Rattle.expr_tree.specs.Tree.{Tree, call}
 use Rattle.expr_tree.proofs.Callers.{tree_steps}
 use Rattle.expr_tree.proofs.Trees.{elements-trees}
 use Rattle.semantics.specs.Lists.{at, part_at}

@@ -1,18 +1,16 @@
 -- Looking for parts, from left to right.
-use Rattle.std.proofs.Common.{◌≡◌, ◌≢◌, ℕ, zero, suc, ◌+◌, ◌<◌, ◌≤◌, max, refl, ap, sym, subst, ◌∙◌, Bool, true, false, List, [], ◌∷◌, ◌++◌, Option, Some, None, Result, Ok, Err, length, get_or, drop, drop-cons, add-one, append_assoc, append-nil, arith}
+use Rattle.std.proofs.Common.{◌≡◌, ℕ, zero, suc, ◌+◌, ◌<◌, ◌≤◌, max, refl, ap, sym, subst, ◌∙◌, Bool, true, false, List, [], ◌∷◌, ◌++◌, Option, Some, None, Result, Ok, Err, length, get_or, drop, drop-cons, add-one, append_assoc, append-nil, arith}
 use Rattle.std.specs.Prelude.{ℤ, pos, negsuc, reverse, is_some}
 use Rattle.std.proofs.lemmas.List.{drop_all, reverse-append}
 use Rattle.expr_tree.specs.declared.sym.Sym.{Sym}
-use Rattle.expr_tree.specs.Tree.{Tree, Trees, nil, cons, integer, string, symbol, normal, call, elements, trees, size, sizes, depth, depths}
+use Rattle.expr_tree.specs.Tree.{Tree, Trees, integer, string, symbol, normal, call, elements, trees, size, sizes, depth, depths}
 use Rattle.expr_tree.proofs.Callers.{tree_steps}
 use Rattle.expr_tree.proofs.Trees.{elements-trees, trees-elements}
 use Rattle.semantics.specs.declared.builtin.Builtin.{Builtin}
 use Rattle.semantics.specs.Names.{Names, is_name}
-use Rattle.semantics.specs.Worked.{Worked, Stays, Gives}
 use Rattle.semantics.specs.Lists.{at, part_at, parts_at, each, with_head, part_of, given}
 use Rattle.builtin_names.specs.Results.{Works}
 use Rattle.builtin_names.specs.declared.fault.Fault.TheVariants as fa
-use Rattle.expr_tree.specs.Limits.{Assembles}
 use Rattle.expr_tree.specs.declared.built.Built.{Built}
 use Rattle.expr_tree.specs.declared.built.Built.TheVariants.{TooLarge, TooDeep, NoMemory}
 use Rattle.part_rows.specs.Finds.{picked, at_index, Finds, FindsAll, MakesShallow}
