@@ -33,5 +33,8 @@ pub fn rewrite(
     if let Some(made) = string_rows::rewrite(alloc, row, names, items) {
         return Some(made);
     }
+    if let Some(made) = part_rows::rewrite(alloc, row, names, items) {
+        return Some(made);
+    }
     number_rows::rewrite(alloc, row, names, items)
 }

@@ -1,5 +1,7 @@
 pub mod PlainRows
 pub mod Walking
+pub mod RowStarts
+pub mod Driving
 pub mod Smaller
 pub mod Answered
 pub mod Fitting

@@ -1,11 +1,80 @@
--- The rows without an equation leave an expression as it is.
+-- What the rows without a program of their own make of an expression.
 use Rattle.std.proofs.Common.{◌≡◌, List, true, refl}
 use Rattle.expr_tree.specs.Tree.{Tree}
 use Rattle.semantics.specs.declared.builtin.Builtin.{Builtin}
 use Rattle.semantics.specs.Names.{Names}
 use Rattle.semantics.specs.Program.{Prog}
-use Rattle.semantics.specs.Table.{row, worked}
+use Rattle.semantics.specs.Table.{row, worked, as_program}
+use Rattle.element_rows.specs.Rows.{is_kept_here}
 use Rattle.eval_seq.specs.Built.{is_plain}
+
+pub element_works : (names : Names) (r : Builtin) (stay : Prog) (items : List Tree) → is_kept_here r ≡ true → row names r stay items ≡ as_program stay (worked names r items)
+unfolding row
+element_works names Builtin.CompoundExpression stay items e = absurd (Prim.cc e)
+element_works names Builtin.If stay items e = absurd (Prim.cc e)
+element_works names Builtin.Which stay items e = absurd (Prim.cc e)
+element_works names Builtin.And stay items e = absurd (Prim.cc e)
+element_works names Builtin.Or stay items e = absurd (Prim.cc e)
+element_works names Builtin.While stay items e = absurd (Prim.cc e)
+element_works names Builtin.Do stay items e = absurd (Prim.cc e)
+element_works names Builtin.Table stay items e = absurd (Prim.cc e)
+element_works names Builtin.Sum stay items e = absurd (Prim.cc e)
+element_works names Builtin.Nest stay items e = absurd (Prim.cc e)
+element_works names Builtin.NestList stay items e = absurd (Prim.cc e)
+element_works names Builtin.FoldList stay items e = absurd (Prim.cc e)
+element_works names Builtin.FixedPoint stay items e = absurd (Prim.cc e)
+element_works names Builtin.Fold stay items e = absurd (Prim.cc e)
+element_works names Builtin.Select stay items e = absurd (Prim.cc e)
+element_works names Builtin.Module stay items e = absurd (Prim.cc e)
+element_works names Builtin.Block stay items e = absurd (Prim.cc e)
+element_works names Builtin.With stay items e = absurd (Prim.cc e)
+element_works names Builtin.Set stay items e = absurd (Prim.cc e)
+element_works names Builtin.SetDelayed stay items e = absurd (Prim.cc e)
+element_works names Builtin.UpSet stay items e = absurd (Prim.cc e)
+element_works names Builtin.UpSetDelayed stay items e = absurd (Prim.cc e)
+element_works names Builtin.TagSet stay items e = absurd (Prim.cc e)
+element_works names Builtin.TagSetDelayed stay items e = absurd (Prim.cc e)
+element_works names Builtin.Unset stay items e = absurd (Prim.cc e)
+element_works names Builtin.Increment stay items e = absurd (Prim.cc e)
+element_works names Builtin.Decrement stay items e = absurd (Prim.cc e)
+element_works names Builtin.PreIncrement stay items e = absurd (Prim.cc e)
+element_works names Builtin.PreDecrement stay items e = absurd (Prim.cc e)
+element_works names Builtin.AddTo stay items e = absurd (Prim.cc e)
+element_works names Builtin.SubtractFrom stay items e = absurd (Prim.cc e)
+element_works names Builtin.TimesBy stay items e = absurd (Prim.cc e)
+element_works names Builtin.AppendTo stay items e = absurd (Prim.cc e)
+element_works names Builtin.PrependTo stay items e = absurd (Prim.cc e)
+element_works names Builtin.Clear stay items e = absurd (Prim.cc e)
+element_works names Builtin.ClearAll stay items e = absurd (Prim.cc e)
+element_works names Builtin.SetAttributes stay items e = absurd (Prim.cc e)
+element_works names Builtin.ClearAttributes stay items e = absurd (Prim.cc e)
+element_works names Builtin.Attributes stay items e = absurd (Prim.cc e)
+element_works names Builtin.Protect stay items e = absurd (Prim.cc e)
+element_works names Builtin.Unprotect stay items e = absurd (Prim.cc e)
+element_works names Builtin.ReplaceAll stay items e = absurd (Prim.cc e)
+element_works names Builtin.ReplaceRepeated stay items e = absurd (Prim.cc e)
+element_works names Builtin.MatchQ stay items e = absurd (Prim.cc e)
+element_works names Builtin.MemberQ stay items e = absurd (Prim.cc e)
+element_works names Builtin.Cases stay items e = absurd (Prim.cc e)
+element_works names Builtin.Count stay items e = absurd (Prim.cc e)
+element_works names Builtin.FreeQ stay items e = absurd (Prim.cc e)
+element_works names Builtin.ParallelTable stay items e = absurd (Prim.cc e)
+element_works names Builtin.ParallelDo stay items e = absurd (Prim.cc e)
+element_works names Builtin.ParallelSum stay items e = absurd (Prim.cc e)
+element_works names Builtin.ParallelEvaluate stay items e = absurd (Prim.cc e)
+element_works names Builtin.ParallelCombine stay items e = absurd (Prim.cc e)
+element_works names Builtin.ParallelTry stay items e = absurd (Prim.cc e)
+element_works names Builtin.WaitNext stay items e = absurd (Prim.cc e)
+element_works names Builtin.WaitAll stay items e = absurd (Prim.cc e)
+element_works names Builtin.CriticalSection stay items e = absurd (Prim.cc e)
+element_works names Builtin.Quit stay items e = absurd (Prim.cc e)
+element_works names Builtin.ParallelMap stay items e = absurd (Prim.cc e)
+element_works names Builtin.ParallelSubmit stay items e = absurd (Prim.cc e)
+element_works names Builtin.DistributeDefinitions stay items e = absurd (Prim.cc e)
+element_works names Builtin.SetSharedVariable stay items e = absurd (Prim.cc e)
+element_works names Builtin.SetSharedFunction stay items e = absurd (Prim.cc e)
+element_works names Builtin.Print stay items e = absurd (Prim.cc e)
+element_works names _ stay items e = refl
 
 pub plain_stays : (names : Names) (r : Builtin) (stay : Prog) (items : List Tree) → is_plain r ≡ true → row names r stay items ≡ stay
 unfolding row worked

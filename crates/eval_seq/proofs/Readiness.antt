@@ -1,5 +1,5 @@
 -- An outside that may be called may be called again after each step.
-use Rattle.std.proofs.Common.{ℕ, Some, Result, Ok}
+use Rattle.std.proofs.Common.{ℕ, Option, Some, None, Result, Ok}
 use Rattle.expr_tree.specs.Tree.{Tree}
 use Rattle.semantics.specs.Program.{Prog, Done}
 use Rattle.expr_tree.specs.Tree.{integer}
@@ -7,9 +7,13 @@ use Rattle.std.specs.Prelude.{pos}
 use Rattle.semantics.specs.Play.{Setting, State, Play}
 use Rattle.evaluation_steps.specs.Leads.{Step, Leads, here, called}
 use Rattle.evaluation_steps.proofs.Laws.{went_somewhere}
+use Rattle.frame_steps.specs.declared.moves.Move.{Move}
 use Rattle.eval_seq.specs.declared.ending.Ending.{Ending}
+use Rattle.eval_seq.specs.declared.machine.Start.{Start}
+use Rattle.eval_seq.specs.declared.machine.Followed.{Followed}
 use Rattle.eval_seq.specs.Outward.{Guarded}
-use Rattle.eval_seq.specs.Walks.{Goes, Evaluates, Runs}
+use Rattle.eval_seq.specs.Walks.{Goes, Evaluates, Runs, Stepped}
+use Rattle.eval_seq.specs.Driven.{Begins, Follows}
 use Rattle.eval_seq.specs.Sequence.{Turned}
 
 module _ {S : Type 0} {step : Step S} {ready : S → Type 0} where
@@ -28,3 +32,12 @@ module _ {S : Type 0} {step : Step S} {ready : S → Type 0} where
 
   pub ready_turned : {set : Setting} {n m : ℕ} {e v : Tree} {s z : S} {st st' : State} → Turned (Guarded step ready) set n m e s st (Ok (Some v)) st' z → ready s → ready z
   ready_turned a h = leads_ready a.by.1.on h
+
+  pub ready_stepped : {set : Setting} {n : ℕ} {p : Prog → Prog} {s z : S} {st st' : State} → Stepped (Guarded step ready) set n p s st (Ok None) st' z → ready s → ready z
+  ready_stepped a h = leads_ready (a.by (Done (integer (pos 0)))).on h
+
+  pub ready_begins : {set : Setting} {n : ℕ} {p : Prog → Prog} {start : Start} {s z : S} {st st' : State} → Begins (Guarded step ready) set n p s st (Ok start) st' z → ready s → ready z
+  ready_begins a h = leads_ready (a.by (Done (integer (pos 0)))).on h
+
+  pub ready_follows : {set : Setting} {n : ℕ} {m : Move} {answer : Option Tree} {s z : S} {st st' : State} → Follows (Guarded step ready) set n m s st (Ok (Followed.Goes answer)) st' z → ready s → ready z
+  ready_follows a h = leads_ready (a.by (Done (integer (pos 0))) (λ _. Done (integer (pos 0)))).on h

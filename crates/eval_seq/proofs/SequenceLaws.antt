@@ -25,7 +25,7 @@ use Rattle.evaluation_steps.proofs.Laws.{went_lost, reached_here, reached_on, re
 use Rattle.eval_seq.specs.declared.ending.Ending.{Ending}
 use Rattle.eval_seq.specs.Walks.{or_itself, Evaluates, Settles, Runs, PassOf, valued}
 use Rattle.eval_seq.specs.declared.assemble.Spliced.{Spliced}
-use Rattle.eval_seq.specs.Sequence.{attributes_seen, one_asked, asking, firsts, spliced_of, Turned, Within}
+use Rattle.eval_seq.specs.Sequence.{attributes_seen, one_asked, asking, firsts, spliced_of, Turned, IsWithin}
 use Rattle.eval_seq.proofs.Walking.{goes_on, evaluated_of, ran_of, runs_value, runs_halt, runs_led, runs_ask, runs_ask_out, runs_then_out, runs_memory, evaluates_err, pass_on, pass_part_out, settles_halt}
 
 rest_is : (names : Names) (a : Attributes) (es done : List Tree) (k : List Tree → Prog) → ask_rest names a es done k ≡ asking names a (holds_rest a) es done k
@@ -184,13 +184,13 @@ fit_cases true deep h = absurd h
 fit_cases false true h = absurd h
 fit_cases false false h = (refl, refl)
 
-pub within_of : {limits : Limits} {h : Tree} {items : List Tree} {u : Unit {0}} → AreBounded limits → Fits limits (call h items) (Ok u) → Within h items
+pub within_of : {limits : Limits} {h : Tree} {items : List Tree} {u : Unit {0}} → AreBounded limits → Fits limits (call h items) (Ok u) → IsWithin h items
 within_of {limits = limits} {h = h} {items = items} b f =
     let x = fit_cases (ltb limits.size (size (call h items))) (ltb limits.depth (depth (call h items))) f.by in
     let small : size (call h items) ≤ limits.size = ltb-false limits.size (size (call h items)) x.0 in
     let shallow : depth (call h items) ≤ limits.depth = ltb-false limits.depth (depth (call h items)) x.1 in
     record { small = omega (arith, small, b.size_is); shallow = omega (arith, shallow, b.depth_is) }
 
-pub within_err : (x : Ending) (r : Result Spliced Ending) → IsErrAnd r (λ y. y ≡ x) → IfOk r (λ s. Within s.head s.items)
+pub within_err : (x : Ending) (r : Result Spliced Ending) → IsErrAnd r (λ y. y ≡ x) → IfOk r (λ s. IsWithin s.head s.items)
 within_err x (Ok v) i = absurd i
 within_err x (Err y) i = tt

@@ -1,14 +1,14 @@
 -- How the steps of a pass follow one another.
-use Rattle.std.proofs.Common.{◌≡◌, ◌∙◌, ℕ, suc, ◌+◌, ◌<◌, length, ◌≤◌, drop, get_or, drop-cons, arith, not, true, false, List, [], ◌∷◌, Option, Some, None, Result, Ok, Err, refl, sym, subst, ap}
+use Rattle.std.proofs.Common.{◌≡◌, ◌∙◌, ℕ, suc, ◌+◌, ◌<◌, length, ◌≤◌, drop, get_or, drop-cons, arith, true, false, List, Option, Some, None, Result, Ok, Err, refl, sym, subst, ap}
 use Rattle.std.specs.Result.{IsErrAnd}
 use Rattle.std.proofs.lemmas.List.{drop_all}
 use Rattle.expr_tree.specs.declared.sym.Sym.{Sym}
-use Rattle.expr_tree.specs.Tree.{Tree, symbol, elements, trees, call}
+use Rattle.expr_tree.specs.Tree.{Tree, integer, string, symbol, normal, elements, trees, call}
 use Rattle.expr_tree.specs.Shapes.{symbol_of}
 use Rattle.semantics.specs.declared.builtin.Builtin.{Builtin}
 use Rattle.semantics.specs.Names.{Names, is_name, role_of}
 use Rattle.semantics.specs.Rule.{Rule}
-use Rattle.semantics.specs.Definitions.{Attributes, Function, definition_of, has, is_empty}
+use Rattle.semantics.specs.Definitions.{Attributes, Function, definition_of, has}
 use Rattle.semantics.specs.Program.{Prog, Done, Look, Outer, Access, Seen}
 use Rattle.semantics.specs.Attempt.{try_rules}
 use Rattle.semantics.specs.Assemble.{flattened, threaded, sorted, check_all}
@@ -18,17 +18,18 @@ use Rattle.semantics.specs.Sections.{unless_access}
 use Rattle.semantics.specs.Table.{row}
 use Rattle.semantics.specs.Pass.{symbol_rules, up_rules, down_rules, row_or_stay, built_in, last_steps, later_steps, left_standing, marked}
 use Rattle.semantics.specs.Play.{Setting, State, run, eval_at, seen}
-use Rattle.evaluation_steps.specs.declared.Halt.{Halt}
+use Rattle.row_frames.specs.Frames.{left}
+use Rattle.row_frames.specs.declared.frame.Frame.{Frame}
 use Rattle.evaluation_steps.specs.Leads.{Step, Leads, here}
 use Rattle.evaluation_steps.specs.Words.{Reached}
-use Rattle.evaluation_steps.proofs.Laws.{reached_here, reached_on, played_done, played_memory}
+use Rattle.evaluation_steps.proofs.Laws.{reached_here, reached_on, played_done}
 use Rattle.eval_seq.specs.declared.ending.Ending.{Ending}
-use Rattle.eval_seq.specs.declared.ending.Missing.{Missing}
-use Rattle.eval_seq.specs.Built.{is_built, is_plain}
-use Rattle.eval_seq.specs.Walks.{PassOf, valued, halted, unbuilt, Stepped, no_result, at_row, at_rules, at_function}
-use Rattle.eval_seq.specs.Sequence.{Marks, Uses, Sees, stripped, last_of}
+use Rattle.eval_seq.specs.declared.machine.Start.{Start}
+use Rattle.eval_seq.specs.Walks.{PassOf, valued, Stepped}
+use Rattle.eval_seq.specs.Driven.{driven, Begins, Opens}
+use Rattle.eval_seq.specs.Sequence.{Marks, Uses, Sees, stripped, last_of, unless_held, head_rules, head_row}
 use Rattle.expr_tree.proofs.Trees.{elements-trees}
-use Rattle.eval_seq.proofs.PlainRows.{plain_stays}
+use Rattle.eval_seq.proofs.Driving.{begins_on, begins_from, begins_none, begins_machine, begins_opens}
 use Rattle.eval_seq.proofs.Walking.{pass_on}
 use Rattle.eval_seq.proofs.SymbolLaws.{pass_is, marks_on, uses_on}
 
@@ -41,6 +42,12 @@ later_of names head a items flat None =
 whole_is : (names : Names) (head : Tree) (a : Attributes) (items flat : List Tree) (whole stands : Tree) → whole ≡ call head (sorted a flat) → stands ≡ left_standing names a head items whole →
     later_of names head a items flat None ≡ last_of names a whole (Done stands)
 whole_is names head a items flat whole stands w l = rw (l, w, elements-trees (sorted a flat)) refl
+
+down_is : (names : Names) (h : Tree) (items : List Tree) (e : Tree) (rest : Prog) → down_rules names h items e rest ≡ head_rules names h items e (head_row names h items e rest)
+down_is names (integer m) items e rest = refl
+down_is names (string t) items e rest = refl
+down_is names (symbol i) items e rest = refl
+down_is names (normal h fs) items e rest = refl
 
 module _ {S : Type 0} {step : Step S} {set : Setting} {n : ℕ} where
   pub stepped_here : {s : S} {st : State} → Stepped step set n (λ rest. rest) s st (Ok None) st s
@@ -70,33 +77,19 @@ module _ {S : Type 0} {step : Step S} {set : Setting} {n : ℕ} where
   stepped_err {r = Ok v} i a = absurd i
   stepped_err {r = Err y} i a = rw i a
 
-  pub stepped_lost : {p : Prog → Prog} {r : Result (Option Tree) Ending} {s : S} {st st' : State} → IsErrAnd r (λ y. y ≡ Ending.Halt Halt.NoMemory) → Stepped step set n p s st r st' s
-  stepped_lost i = stepped_err i (record { by = λ rest. halted played_memory })
+  stepped_then_value : {p q : Prog → Prog} {v : Tree} {s z : S} {st st' : State} → Stepped step set n p s st (Ok (Some v)) st' z → Stepped step set n (λ rest. p (q rest)) s st (Ok (Some v)) st' z
+  stepped_then_value {q = q} a = record { by = λ rest. a.by (q rest) }
 
-  pub stepped_value : {p : Prog → Prog} {o : Prog} {v : Tree} {s m z : S} {st st' st'' : State} → ((rest : Prog) → Reached step set n (p rest) s st o st' m) → PassOf step set n o m st' (Ok v) st'' z →
-      Stepped step set n p s st (Ok (Some v)) st'' z
-  stepped_value l a = record { by = λ rest. pass_on (l rest) a }
+  -- ---- the row of a head
 
-  pub stepped_out : {p : Prog → Prog} {o : Prog} {x : Ending} {s m z : S} {st st' st'' : State} → ((rest : Prog) → Reached step set n (p rest) s st o st' m) → PassOf step set n o m st' (Err x) st'' z →
-      Stepped step set n p s st (Err x) st'' z
-  stepped_out l a = record { by = λ rest. pass_on (l rest) a }
+  pub built_none : (i : Sym) (items : List Tree) (e : Tree) {s : S} {st : State} → role_of set.names i ≡ None → Begins step set n (λ rest. built_in set.names i items e rest) s st (Ok (Start.Given None)) st s
+  built_none i items e is = begins_none (λ rest. ap (λ o. row_or_stay set.names o i items e rest) is)
 
-  -- ---- rows
-
-  pub row_plain : (b : Builtin) (items : List Tree) {s : S} {st : State} → is_plain b ≡ true → Stepped step set n (λ rest. row set.names b rest items) s st (Ok None) st s
-  row_plain b items e = stepped_is (λ rest. plain_stays set.names b rest items e) stepped_here
-
-  pub row_unbuilt : (b : Builtin) (items : List Tree) {s : S} {st : State} → is_built b ≡ false → Stepped step set n (λ rest. row set.names b rest items) s st (Err (Ending.Unbuilt (Missing.Row b))) st s
-  row_unbuilt b items {st = st} e = record { by = λ rest. unbuilt (record { by = (_, here, at_row (eval_at set n) b rest items st e) }) }
-
-  pub built_none : (i : Sym) (items : List Tree) (e : Tree) {s : S} {st : State} → role_of set.names i ≡ None → Stepped step set n (λ rest. built_in set.names i items e rest) s st (Ok None) st s
-  built_none i items e is = stepped_is (λ rest. ap (λ o. row_or_stay set.names o i items e rest) is) stepped_here
-
-  pub built_on : (i : Sym) (items : List Tree) (e : Tree) {b : Builtin} {r : Result (Option Tree) Ending} {s z : S} {st st' st'' : State} → role_of set.names i ≡ Some b →
-      Uses set (λ x p. unless_access set.names (symbol i) items x p) st false st' → Stepped step set n (λ rest. row set.names b rest items) s st' r st'' z →
-      Stepped step set n (λ rest. built_in set.names i items e rest) s st r st'' z
+  pub built_on : (i : Sym) (items : List Tree) (e : Tree) {b : Builtin} {r : Result Start Ending} {s : S} {st st' : State} → role_of set.names i ≡ Some b →
+      Uses set (λ x p. unless_access set.names (symbol i) items x p) st false st' → Opens set (λ rest. row set.names b rest items) r →
+      Begins step set n (λ rest. built_in set.names i items e rest) s st r st' s
   built_on i items e {b = b} is u a =
-      stepped_is (λ rest. ap (λ o. row_or_stay set.names o i items e rest) is) (stepped_on (λ rest. uses_on u e (row set.names b rest items)) a)
+      begins_from (λ rest. reached_on (reached_is (ap (λ o. row_or_stay set.names o i items e rest) is)) (uses_on u e (row set.names b rest items))) (begins_opens a)
 
   pub built_sent : (i : Sym) (items : List Tree) (e : Tree) {b : Builtin} {s : S} {st st' : State} → role_of set.names i ≡ Some b →
       Uses set (λ x p. unless_access set.names (symbol i) items x p) st true st' → (rest : Prog) → Reached step set n (built_in set.names i items e rest) s st (Outer (Access e) Done) st' s
@@ -105,26 +98,38 @@ module _ {S : Type 0} {step : Step S} {set : Setting} {n : ℕ} where
   -- ---- down rules
 
   pub head_sent : (i : Sym) (items : List Tree) (e : Tree) {s : S} {st st' : State} → Marks set Function i st true st' → (rest : Prog) →
-      Reached step set n (down_rules set.names (symbol i) items e rest) s st (Outer (Access e) Done) st' s
-  head_sent i items e m rest = marks_on m e (λ it. try_rules set.names it.definition.downs e Done (built_in set.names i items e rest))
+      Reached step set n (head_rules set.names (symbol i) items e rest) s st (Outer (Access e) Done) st' s
+  head_sent i items e m rest = marks_on m e (λ it. try_rules set.names it.definition.downs e Done rest)
 
-  pub head_none : (i : Sym) (items : List Tree) (e : Tree) (rules : List Rule) {r : Result (Option Tree) Ending} {s z : S} {st st' st'' : State} → Marks set Function i st false st' →
-      rules ≡ (definition_of set.names st.definitions i).downs → not (is_empty rules) ≡ false →
-      Stepped step set n (λ rest. built_in set.names i items e rest) s st' r st'' z → Stepped step set n (λ rest. down_rules set.names (symbol i) items e rest) s st r st'' z
-  head_none i items e [] m is none a =
-      stepped_on (λ rest. reached_on (marks_on m e (λ it. try_rules set.names it.definition.downs e Done (built_in set.names i items e rest)))
-      (reached_is (ap (λ rs. try_rules set.names rs e Done (built_in set.names i items e rest)) (sym is)))) a
-  head_none i items e (rule ∷ rules) m is none a = absurd (Prim.cc none)
+  pub head_machine : (i : Sym) (items : List Tree) (e : Tree) (rules : List Rule) {frame : Frame} {s : S} {st st' : State} → Marks set Function i st false st' → rules ≡ (definition_of set.names st.definitions i).downs →
+      ((names : Names) (stay : Prog) → left names frame stay None ≡ try_rules names rules e Done stay) → Begins step set n (λ rest. head_rules set.names (symbol i) items e rest) s st (Ok (Start.Machine frame)) st' s
+  head_machine i items e rules m is tries =
+      begins_machine {q = λ rest. try_rules set.names rules e Done rest}
+      (λ rest. reached_on (marks_on m e (λ it. try_rules set.names it.definition.downs e Done rest)) (reached_is (ap (λ rs. try_rules set.names rs e Done rest) (sym is)))) (tries set.names)
 
-  pub head_rules : (i : Sym) (items : List Tree) (e : Tree) (rules : List Rule) {s : S} {st st' : State} → Marks set Function i st false st' → rules ≡ (definition_of set.names st.definitions i).downs → not (is_empty rules) ≡ true →
-      Stepped step set n (λ rest. down_rules set.names (symbol i) items e rest) s st (Err (Ending.Unbuilt Missing.Rules)) st' s
-  head_rules i items e [] m is some = absurd (Prim.cc some)
-  head_rules i items e (rule ∷ rules) {st' = st'} m is some =
-      record {
-        by = λ rest. pass_on (reached_on (marks_on m e (λ it. try_rules set.names it.definition.downs e Done (built_in set.names i items e rest)))
-            (reached_is (ap (λ rs. try_rules set.names rs e Done (built_in set.names i items e rest)) (sym is))))
-            (unbuilt (record { by = (_, here, at_rules (eval_at set n) rule rules e Done (built_in set.names i items e rest) st') }));
-      }
+  pub head_function : (h : Tree) (fs : List Tree) (items : List Tree) (e : Tree) {r : Result Start Ending} {s : S} {st : State} → is_name set.names Builtin.Function h ≡ true →
+      Opens set (λ rest. apply_function set.names rest fs items) r → Begins step set n (λ rest. head_rules set.names (call h fs) items e rest) s st r st s
+  head_function h fs items e is a =
+      begins_from
+      (λ rest. reached_is (ap (λ b. elim b as (λ _. Prog) [ true ↦ apply_function set.names rest (elements (trees fs)) items | false ↦ rest ]) is ∙ ap (λ xs. apply_function set.names rest xs items) (elements-trees fs)))
+      (begins_opens a)
+
+  pub head_other : (h : Tree) (fs : List Tree) (items : List Tree) (e : Tree) {s : S} {st : State} → is_name set.names Builtin.Function h ≡ false →
+      Begins step set n (λ rest. head_rules set.names (call h fs) items e rest) s st (Ok (Start.Given None)) st s
+  head_other h fs items e is = begins_none (λ rest. ap (λ b. elim b as (λ _. Prog) [ true ↦ apply_function set.names rest (elements (trees fs)) items | false ↦ rest ]) is)
+
+  pub down_value : (h : Tree) (items : List Tree) (e : Tree) {start : Start} {v : Tree} {s m z : S} {st st' st'' : State} → Begins step set n (λ rest. head_rules set.names h items e rest) s st (Ok start) st' m →
+      Stepped step set n (driven set.names start) m st' (Ok (Some v)) st'' z → Stepped step set n (λ rest. down_rules set.names h items e rest) s st (Ok (Some v)) st'' z
+  down_value h items e a b = stepped_is (λ rest. down_is set.names h items e rest) (stepped_then_value {q = λ rest. head_row set.names h items e rest} (begins_on a b))
+
+  pub down_out : (h : Tree) (items : List Tree) (e : Tree) {x : Ending} {s z : S} {st st' : State} → Stepped step set n (λ rest. head_rules set.names h items e rest) s st (Err x) st' z →
+      Stepped step set n (λ rest. down_rules set.names h items e rest) s st (Err x) st' z
+  down_out h items e a = stepped_is (λ rest. down_is set.names h items e rest) (stepped_then_out {q = λ rest. head_row set.names h items e rest} a)
+
+  pub down_on : (h : Tree) (items : List Tree) (e : Tree) {start : Start} {r : Result (Option Tree) Ending} {s m o z : S} {st st1 st2 st3 : State} → Begins step set n (λ rest. head_rules set.names h items e rest) s st (Ok start) st1 m →
+      Stepped step set n (driven set.names start) m st1 (Ok None) st2 o → Stepped step set n (λ rest. head_row set.names h items e rest) o st2 r st3 z →
+      Stepped step set n (λ rest. down_rules set.names h items e rest) s st r st3 z
+  down_on h items e a b c = stepped_is (λ rest. down_is set.names h items e rest) (stepped_then {q = λ rest. head_row set.names h items e rest} (begins_on a b) c)
 
   -- ---- up rules
 
@@ -132,20 +137,11 @@ module _ {S : Type 0} {step : Step S} {set : Setting} {n : ℕ} where
   sees_on {i = i} {st = st} {s = s} m q =
       record { on = subst (λ t. Leads step s (run set (eval_at set n) (Look i (λ it. marked it.shared (q it))) st) t s) (m.by (eval_at set n) q) here }
 
-  pub up_none : (i : Sym) (e : Tree) (rules : List Rule) {s : S} {st st' : State} → Sees set i st st' → rules ≡ (definition_of set.names st.definitions i).ups → not (is_empty rules) ≡ false →
-      Stepped step set n (λ rest. symbol_rules set.names (Some i) e rest) s st (Ok None) st' s
-  up_none i e [] m is none =
-      stepped_on (λ rest. reached_on (sees_on m (λ it. try_rules set.names it.definition.ups e Done rest)) (reached_is (ap (λ rs. try_rules set.names rs e Done rest) (sym is)))) stepped_here
-  up_none i e (rule ∷ rules) m is none = absurd (Prim.cc none)
-
-  pub up_found : (i : Sym) (e : Tree) (rules : List Rule) {s : S} {st st' : State} → Sees set i st st' → rules ≡ (definition_of set.names st.definitions i).ups → not (is_empty rules) ≡ true →
-      Stepped step set n (λ rest. symbol_rules set.names (Some i) e rest) s st (Err (Ending.Unbuilt Missing.Rules)) st' s
-  up_found i e [] m is some = absurd (Prim.cc some)
-  up_found i e (rule ∷ rules) {st' = st'} m is some =
-      record {
-        by = λ rest. pass_on (reached_on (sees_on m (λ it. try_rules set.names it.definition.ups e Done rest)) (reached_is (ap (λ rs. try_rules set.names rs e Done rest) (sym is))))
-            (unbuilt (record { by = (_, here, at_rules (eval_at set n) rule rules e Done rest st') }));
-      }
+  pub up_machine : (i : Sym) (e : Tree) (rules : List Rule) {frame : Frame} {s : S} {st st' : State} → Sees set i st st' → rules ≡ (definition_of set.names st.definitions i).ups →
+      ((names : Names) (stay : Prog) → left names frame stay None ≡ try_rules names rules e Done stay) → Begins step set n (λ rest. symbol_rules set.names (Some i) e rest) s st (Ok (Start.Machine frame)) st' s
+  up_machine i e rules m is tries =
+      begins_machine {q = λ rest. try_rules set.names rules e Done rest}
+      (λ rest. reached_on (sees_on m (λ it. try_rules set.names it.definition.ups e Done rest)) (reached_is (ap (λ rs. try_rules set.names rs e Done rest) (sym is)))) (tries set.names)
 
   -- the next element
   pub ups_next : (items : List Tree) (i : ℕ) (x : Tree) (e : Tree) {s : S} {st : State} → i < length items → x ≡ get_or items i x → (rest : Prog) →
@@ -154,46 +150,15 @@ module _ {S : Type 0} {step : Step S} {set : Setting} {n : ℕ} where
       let one : i + 1 ≡ suc i = omega arith in
       rw (one, drop-cons items i x within, sym is) reached_here
 
-  -- ---- a Function, and heads without rules
-
-  pub down_function : (h : Tree) (fs : List Tree) (items : List Tree) (e : Tree) {s : S} {st : State} → is_name set.names Builtin.Function h ≡ true →
-      Stepped step set n (λ rest. down_rules set.names (call h fs) items e rest) s st (Err (Ending.Unbuilt Missing.Function)) st s
-  down_function h fs items e {st = st} is =
-      record {
-        by = λ rest. pass_is (ap (λ b. elim b as (λ _. Prog) [ true ↦ apply_function set.names rest (elements (trees fs)) items | false ↦ rest ]) is)
-            (unbuilt (record { by = (_, here, at_function (eval_at set n) rest (elements (trees fs)) items st) }));
-      }
-
-  pub down_other : (h : Tree) (fs : List Tree) (items : List Tree) (e : Tree) {s : S} {st : State} → is_name set.names Builtin.Function h ≡ false →
-      Stepped step set n (λ rest. down_rules set.names (call h fs) items e rest) s st (Ok None) st s
-  down_other h fs items e is =
-      stepped_is (λ rest. ap (λ b. elim b as (λ _. Prog) [ true ↦ apply_function set.names rest (elements (trees fs)) items | false ↦ rest ]) is) stepped_here
-
-  -- ---- the steps after assembling
-
-  pub steps_held : (a : Attributes) (h : Tree) (es : List Tree) (e : Tree) {r : Result (Option Tree) Ending} {s z : S} {st st' : State} → has Builtin.HoldAllComplete a ≡ true →
-      Stepped step set n (λ rest. down_rules set.names h es e rest) s st r st' z → Stepped step set n (λ rest. last_steps set.names a es e rest h) s st r st' z
-  steps_held a h es e is b = stepped_is (λ rest. ap (λ x. elim x as (λ _. Prog) [ true ↦ down_rules set.names h es e rest | false ↦ up_rules set.names es e (down_rules set.names h es e rest) ]) is) b
-
-  pub steps_free : (a : Attributes) (h : Tree) (es : List Tree) (e : Tree) {r : Result (Option Tree) Ending} {s m z : S} {st st' st'' : State} → has Builtin.HoldAllComplete a ≡ false →
-      Stepped step set n (λ rest. up_rules set.names es e rest) s st (Ok None) st' m →
-      Stepped step set n (λ rest. down_rules set.names h es e rest) m st' r st'' z → Stepped step set n (λ rest. last_steps set.names a es e rest h) s st r st'' z
-  steps_free a h es e is u b =
-      stepped_is (λ rest. ap (λ x. elim x as (λ _. Prog) [ true ↦ down_rules set.names h es e rest | false ↦ up_rules set.names es e (down_rules set.names h es e rest) ]) is)
-      (stepped_then {q = λ rest. down_rules set.names h es e rest} u b)
-
-  pub steps_free_out : (a : Attributes) (h : Tree) (es : List Tree) (e : Tree) {x : Ending} {s z : S} {st st' : State} → has Builtin.HoldAllComplete a ≡ false →
-      Stepped step set n (λ rest. up_rules set.names es e rest) s st (Err x) st' z → Stepped step set n (λ rest. last_steps set.names a es e rest h) s st (Err x) st' z
-  steps_free_out a h es e is u =
-      stepped_is (λ rest. ap (λ x. elim x as (λ _. Prog) [ true ↦ down_rules set.names h es e rest | false ↦ up_rules set.names es e (down_rules set.names h es e rest) ]) is)
-      (stepped_then_out {q = λ rest. down_rules set.names h es e rest} u)
-
-  pub ups_out : (items : List Tree) (i : ℕ) (x : Tree) (e : Tree) {y : Ending} (r : Result (Unit {0}) Ending) {s m z : S} {st st' st'' : State} → IsErrAnd r (λ q. q ≡ y) → i < length items → x ≡ get_or items i x →
+  pub ups_out : (items : List Tree) (i : ℕ) (x : Tree) (e : Tree) {y : Ending} {s m z : S} {st st' st'' : State} → i < length items → x ≡ get_or items i x →
       ((rest : Prog) → Reached step set n (up_rules set.names items e rest) s st (up_rules set.names (drop i items) e rest) st' m) →
-      Stepped step set n (λ rest. symbol_rules set.names (symbol_of x) e rest) m st' (Err y) st'' z → Stepped step set n (λ rest. up_rules set.names items e rest) s st (no_result r) st'' z
-  ups_out items i x e (Ok u) err within is l a = absurd err
-  ups_out items i x e (Err y) err within is l a =
-      rw err (record { by = λ rest. pass_on (reached_on (l rest) (ups_next items i x e within is rest)) (a.by (up_rules set.names (drop (i + 1) items) e rest)) })
+      Stepped step set n (λ rest. symbol_rules set.names (symbol_of x) e rest) m st' (Err y) st'' z → Stepped step set n (λ rest. up_rules set.names items e rest) s st (Err y) st'' z
+  ups_out items i x e within is l a = record { by = λ rest. pass_on (reached_on (l rest) (ups_next items i x e within is rest)) (a.by (up_rules set.names (drop (i + 1) items) e rest)) }
+
+  pub ups_value : (items : List Tree) (i : ℕ) (x : Tree) (e : Tree) {v : Tree} {s m z : S} {st st' st'' : State} → i < length items → x ≡ get_or items i x →
+      ((rest : Prog) → Reached step set n (up_rules set.names items e rest) s st (up_rules set.names (drop i items) e rest) st' m) →
+      Stepped step set n (λ rest. symbol_rules set.names (symbol_of x) e rest) m st' (Ok (Some v)) st'' z → Stepped step set n (λ rest. up_rules set.names items e rest) s st (Ok (Some v)) st'' z
+  ups_value items i x e within is l a = record { by = λ rest. pass_on (reached_on (l rest) (ups_next items i x e within is rest)) (a.by (up_rules set.names (drop (i + 1) items) e rest)) }
 
   pub ups_on : (items : List Tree) (i : ℕ) (x : Tree) (e : Tree) {s m z : S} {st st' st'' : State} → i < length items → x ≡ get_or items i x →
       ((rest : Prog) → Reached step set n (up_rules set.names items e rest) s st (up_rules set.names (drop i items) e rest) st' m) →
@@ -204,6 +169,13 @@ module _ {S : Type 0} {step : Step S} {set : Setting} {n : ℕ} where
       ((rest : Prog) → Reached step set n (up_rules set.names items e rest) s st (up_rules set.names (drop i items) e rest) st' z) → Stepped step set n (λ rest. up_rules set.names items e rest) s st (Ok None) st' z
   ups_done items i e {s = s} {z = z} {st = st} {st' = st'} past l =
       record { by = λ rest. subst (λ xs. Reached step set n (up_rules set.names items e rest) s st (up_rules set.names xs e rest) st' z) (drop_all i items past) (l rest) }
+
+  pub ups_held : (a : Attributes) (items : List Tree) (e : Tree) {s : S} {st : State} → has Builtin.HoldAllComplete a ≡ true → Stepped step set n (λ rest. unless_held set.names a items e rest) s st (Ok None) st s
+  ups_held a items e is = stepped_is (λ rest. ap (λ b. elim b as (λ _. Prog) [ true ↦ rest | false ↦ up_rules set.names items e rest ]) is) stepped_here
+
+  pub ups_free : (a : Attributes) (items : List Tree) (e : Tree) {r : Result (Option Tree) Ending} {s z : S} {st st' : State} → has Builtin.HoldAllComplete a ≡ false →
+      Stepped step set n (λ rest. up_rules set.names items e rest) s st r st' z → Stepped step set n (λ rest. unless_held set.names a items e rest) s st r st' z
+  ups_free a items e is b = stepped_is (λ rest. ap (λ x. elim x as (λ _. Prog) [ true ↦ rest | false ↦ up_rules set.names items e rest ]) is) b
 
   -- ---- what stands, and threading
 
@@ -227,9 +199,22 @@ module _ {S : Type 0} {step : Step S} {set : Setting} {n : ℕ} where
   later_whole head a items whole stands is w l b =
       pass_is (ap (λ o. later_of set.names head a items (flattened head a (stripped set.names a items)) o) is ∙ whole_is set.names head a items (flattened head a (stripped set.names a items)) whole stands w l) b
 
-  pub stepped_last : (a : Attributes) (h : Tree) (es : List Tree) (hd : Tree) (xs : List Tree) (w : Tree) {r : Result (Option Tree) Ending} {s z : S} {st st' : State} → w ≡ call h es → hd ≡ h → xs ≡ es →
-      Stepped step set n (λ rest. last_steps set.names a xs w rest hd) s st r st' z → Stepped step set n (λ rest. last_of set.names a w rest) s st r st' z
-  stepped_last a h es hd xs w e f g b =
+  -- the steps of a call: `unless_held`, and what follows
+  pub call_value : (a : Attributes) (h : Tree) (es : List Tree) (w : Tree) {v : Tree} {s z : S} {st st' : State} → Stepped step set n (λ rest. unless_held set.names a es w rest) s st (Ok (Some v)) st' z →
+      Stepped step set n (λ rest. last_steps set.names a es w rest h) s st (Ok (Some v)) st' z
+  call_value a h es w u = stepped_then_value {q = λ rest. down_rules set.names h es w rest} u
+
+  pub call_out : (a : Attributes) (h : Tree) (es : List Tree) (w : Tree) {x : Ending} {s z : S} {st st' : State} → Stepped step set n (λ rest. unless_held set.names a es w rest) s st (Err x) st' z →
+      Stepped step set n (λ rest. last_steps set.names a es w rest h) s st (Err x) st' z
+  call_out a h es w u = stepped_then_out {q = λ rest. down_rules set.names h es w rest} u
+
+  pub call_on : (a : Attributes) (h : Tree) (es : List Tree) (w : Tree) {r : Result (Option Tree) Ending} {s m z : S} {st st' st'' : State} → Stepped step set n (λ rest. unless_held set.names a es w rest) s st (Ok None) st' m →
+      Stepped step set n (λ rest. down_rules set.names h es w rest) m st' r st'' z → Stepped step set n (λ rest. last_steps set.names a es w rest h) s st r st'' z
+  call_on a h es w u d = stepped_then {q = λ rest. down_rules set.names h es w rest} u d
+
+  pub stepped_last : (a : Attributes) (h : Tree) (es : List Tree) (hd : Tree) (w : Tree) {r : Result (Option Tree) Ending} {s z : S} {st st' : State} → w ≡ call h es → hd ≡ h →
+      Stepped step set n (λ rest. last_steps set.names a es w rest hd) s st r st' z → Stepped step set n (λ rest. last_of set.names a w rest) s st r st' z
+  stepped_last a h es hd w e f b =
       stepped_is (λ rest. ap (λ x. last_of set.names a x rest) e
-      ∙ (ap (λ ys. last_steps set.names a ys (call h es) rest h) (elements-trees es ∙ sym g)
-      ∙ (ap (λ k. last_steps set.names a xs (call h es) rest k) (sym f) ∙ ap (λ x. last_steps set.names a xs x rest hd) (sym e)))) b
+      ∙ (ap (λ ys. last_steps set.names a ys (call h es) rest h) (elements-trees es)
+      ∙ (ap (λ k. last_steps set.names a es (call h es) rest k) (sym f) ∙ ap (λ x. last_steps set.names a es x rest hd) (sym e)))) b

@@ -1,7 +1,10 @@
 -- Which rows of the built-in table the evaluator has.
 --     is_plain              the rows without an equation
-use Rattle.std.specs.Prelude.{Bool, true, false}
+--     is_built              these, those that are functions of their elements, and those that have a machine
+use Rattle.std.specs.Prelude.{Bool, true, false, ◌||◌}
 use Rattle.semantics.specs.declared.builtin.Builtin.{Builtin}
+use Rattle.element_rows.specs.Rows.{is_kept_here}
+use Rattle.row_frames.specs.Frames.{has_frame}
 
 abbrev pub is_plain : Builtin → Bool
 is_plain Builtin.Hold = true
@@ -47,4 +50,4 @@ is_plain Builtin.KernelCount = true
 is_plain _ = false
 
 abbrev pub is_built : Builtin → Bool
-is_built row = is_plain row
+is_built row = is_plain row || (is_kept_here row || has_frame row)

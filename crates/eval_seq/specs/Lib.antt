@@ -1,7 +1,7 @@
-pub mod Defined
 pub mod Outward
 pub mod Setup
 pub mod Built
 pub mod Walks
 pub mod Sequence
+pub mod Driven
 pub mod Told

@@ -1,17 +1,11 @@
--- What the program keeps for modes, calls and replies.
---     mode_of, call_of, reply_of
+-- What the program keeps for calls and replies.
+--     call_of, reply_of
 --     Guarded               a step of an outside that may be called again afterwards
 use Rattle.semantics.specs.Program as p
 use Rattle.semantics.specs.Play as y
-use Rattle.eval_seq.specs.declared.outward.Mode.{Mode}
 use Rattle.eval_seq.specs.declared.outward.Want.{Want}
 use Rattle.eval_seq.specs.declared.outward.Answer.{Answer}
 use Rattle.evaluation_steps.specs.Leads.{Step}
-
-abbrev pub mode_of : Mode → p.Mode
-mode_of Mode.Cell = p.Cell
-mode_of Mode.Item = p.Item
-mode_of Mode.Service = p.Service
 
 abbrev pub call_of : Want → p.Call
 call_of (Want.Access e) = p.Sends (p.Access e)

@@ -4,6 +4,8 @@
 --     firsts, spliced_of    head, elements and splicing, and what they give on
 --     AssembledBy           the call after stripping, flattening, threading and sorting
 --     last_of               the steps after them
+--     unless_held           the up rules of the symbols of the elements
+--     head_rules, head_row  the down rules of the head; its row
 --     Answers, AnswersOr    the end of a program that asks nothing
 --     Marks                 a use of a symbol that may be shared
 use Rattle.std.specs.Prelude.{◌≡◌, ◌⊎◌, ◌<◌, ◌≤◌, ◌-◌, ℕ, List, [], ◌∷◌, ◌++◌, Bool, true, false, Option, Some, None, Result, Ok, Err, unwrap_or}
@@ -11,13 +13,15 @@ use Rattle.expr_tree.specs.declared.sym.Sym.{Sym}
 use Rattle.expr_tree.specs.declared.limits.Limits.{Limits}
 use Rattle.expr_tree.specs.Tree.{Tree, symbol, normal, elements, call, size, depth}
 use Rattle.semantics.specs.declared.builtin.Builtin.{Builtin}
-use Rattle.semantics.specs.Names.{Names}
+use Rattle.semantics.specs.Names.{Names, is_name}
 use Rattle.semantics.specs.Steps.{strip}
-use Rattle.semantics.specs.Definitions.{Definitions, Attributes, Share, definition_of, has}
+use Rattle.semantics.specs.Definitions.{Definitions, Attributes, Share, Function, definition_of, has}
 use Rattle.semantics.specs.Program.{Prog, Done, Ask, Look, Outer, Access, Seen, Mode, Cell, Item, Service}
 use Rattle.semantics.specs.Assemble.{is_asked, ask_rest, first_steps, flattened, threaded, sorted}
 use Rattle.semantics.specs.Sections.{access_or}
-use Rattle.semantics.specs.Pass.{last_steps, left_standing, marked}
+use Rattle.semantics.specs.Attempt.{try_rules}
+use Rattle.semantics.specs.Scoping.{apply_function}
+use Rattle.semantics.specs.Pass.{last_steps, left_standing, marked, up_rules, built_in}
 use Rattle.semantics.specs.Play.{Setting, State, Evaluator, run, seen, too_large}
 use Rattle.builtin_names.specs.Attributes.{attributes_in}
 use Rattle.evaluation_steps.specs.Leads.{Step}
@@ -64,6 +68,19 @@ abbrev pub last_of : Names → Attributes → Tree → Prog → Prog
 last_of names a (normal h es) rest = last_steps names a (elements es) (normal h es) rest h
 last_of names a _ rest = rest
 
+abbrev pub unless_held : Names → Attributes → List Tree → Tree → Prog → Prog
+unless_held names a items e next = elim (has Builtin.HoldAllComplete a) [ true ↦ next | false ↦ up_rules names items e next ]
+
+-- `next` follows where no rule applies
+abbrev pub head_rules : Names → Tree → List Tree → Tree → Prog → Prog
+head_rules names (symbol s) items e next = Look s (λ seen. access_or seen.shared Function e (marked seen.shared (try_rules names seen.definition.downs e Done next)))
+head_rules names (normal h fs) items e next = elim (is_name names Builtin.Function h) [ true ↦ apply_function names next (elements fs) items | false ↦ next ]
+head_rules names _ items e next = next
+
+abbrev pub head_row : Names → Tree → List Tree → Tree → Prog → Prog
+head_row names (symbol s) items e stay = built_in names s items e stay
+head_row names _ items e stay = stay
+
 abbrev pub AnswersBy : Limits → Prog → Result Tree Halt → Type 0
 AnswersBy limits p (Ok v) = Shows limits p (Done v)
 AnswersBy limits p (Err (Halt.Stopped c)) = HasStopped limits p c ⊎ ((v : Tree) × Shows limits p (Done v) × (too_large limits v ≡ Some c))
@@ -92,7 +109,7 @@ pub record Uses (set : Setting) (access : Tree → Prog → Prog) (st : State) (
 pub record Sees (set : Setting) (s : Sym) (st st' : State) : Type 0 where
   pub by : (ev : Evaluator) (q : Seen → Prog) → run set ev (Look s (λ it. marked it.shared (q it))) st ≡ run set ev (q (seen set.names st.definitions s)) st'
 
-pub record Within (head : Tree) (items : List Tree) : Type 0 where
+pub record IsWithin (head : Tree) (items : List Tree) : Type 0 where
   pub small : size (call head items) ≤ 4000000
   pub shallow : depth (call head items) ≤ 512
 

@@ -11,13 +11,12 @@ use Rattle.semantics.specs.Eval.{Event, Evaluation, over}
 use Rattle.builtin_names.specs.Named.{names_in}
 use Rattle.evaluation_steps.specs.Explain.{Told}
 use Rattle.evaluation_steps.specs.declared.Halt.{Halt}
+use Rattle.frame_steps.specs.Setup.{mode_of, shown_by}
 use Rattle.eval_seq.specs.declared.context.Context.{Context}
 use Rattle.eval_seq.specs.declared.ending.Ending.{Ending}
 use Rattle.eval_seq.specs.declared.ending.Missing.{Missing}
 use Rattle.eval_seq.specs.declared.call.Outcome.{Outcome}
 use Rattle.eval_seq.specs.declared.call.Ended.{Ended}
-use Rattle.eval_seq.specs.Outward.{mode_of}
-use Rattle.eval_seq.specs.Setup.{shown_by}
 use Rattle.eval_seq.specs.Walks.{Stands}
 
 abbrev pub setting : Context → Limits → Setting

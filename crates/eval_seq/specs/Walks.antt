@@ -5,15 +5,12 @@
 --     Evaluates, Settles, Runs      an expression; the same with so many changing passes left; a part of a program
 --     PassOf                a pass, whose result may be too large to be made
 --     Stepped               a step of the sequence: it has a result, or the rest follows
-use Rattle.std.specs.Prelude.{◌≡◌, ℕ, false, List, ◌∷◌, Option, Some, None, Result, Ok, Err}
+use Rattle.std.specs.Prelude.{◌≡◌, ℕ, false, List, Option, Some, None, Result, Ok, Err}
 use Rattle.expr_tree.specs.Tree.{Tree}
 use Rattle.expr_tree.specs.declared.limits.Stop.{Stop}
 use Rattle.semantics.specs.declared.builtin.Builtin.{Builtin}
 use Rattle.semantics.specs.Program.{Prog}
 use Rattle.semantics.specs.Table.{row}
-use Rattle.semantics.specs.Rule.{Rule}
-use Rattle.semantics.specs.Attempt.{try_rules}
-use Rattle.semantics.specs.Scoping.{apply_function}
 use Rattle.semantics.specs.Play.{Setting, State, End, Play, Over, Value, Evaluator, ending, run, passes, eval_at, too_large}
 use Rattle.evaluation_steps.specs.declared.Halt.{Halt}
 use Rattle.evaluation_steps.specs.Leads.{Step, Leads, Went}
@@ -35,9 +32,6 @@ or_itself e (Err x) = Err x
 -- at something that is not built, or in a part of an evaluation that is
 pub data Stands (set : Setting) : Missing → Play → Type 0 where
   at_row : (ev : Evaluator) (b : Builtin) (stay : Prog) (items : List Tree) (st : State) → is_built b ≡ false → Stands set (Missing.Row b) (run set ev (row set.names b stay items) st)
-  at_rules : (ev : Evaluator) (r : Rule) (rs : List Rule) (e : Tree) (gives : Tree → Prog) (otherwise : Prog) (st : State) →
-      Stands set Missing.Rules (run set ev (try_rules set.names (r ∷ rs) e gives otherwise) st)
-  at_function : (ev : Evaluator) (stay : Prog) (parts items : List Tree) (st : State) → Stands set Missing.Function (run set ev (apply_function set.names stay parts items) st)
   in_part : {b : Missing} (t : Play) (k : End → State → Play) → Stands set b t → Stands set b (ending t k)
 
 pub record Met {S : Type 0} (step : Step S) (set : Setting) (s : S) (t : Play) (b : Missing) (z : S) : Type 0 where
@@ -76,8 +70,3 @@ SteppedBy step set n p s st (Err x) st' z rest = PassOf step set n (p rest) s st
 
 pub record Stepped {S : Type 0} (step : Step S) (set : Setting) (n : ℕ) (p : Prog → Prog) (s : S) (st : State) (r : Result (Option Tree) Ending) (st' : State) (z : S) : Type 0 where
   pub by : (rest : Prog) → SteppedBy step set n p s st r st' z rest
-
--- a step that gave no result
-abbrev pub no_result : Result (Unit {0}) Ending → Result (Option Tree) Ending
-no_result (Ok u) = Ok None
-no_result (Err x) = Err x

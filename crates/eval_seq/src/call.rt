@@ -5,16 +5,16 @@ ghost use Rattle.semantics.specs.Eval.{Event};
 ghost use Rattle.builtin_names.specs.Named.{HasBuiltins};
 ghost use Rattle.evaluation_steps.specs.Explain.{Explain};
 ghost use Rattle.evaluation_steps.specs.Stopping.{AreBounded};
-ghost use Rattle.eval_seq.specs.Defined.{defs_in};
 ghost use Rattle.eval_seq.specs.Told.{setting, outcome_of, ended_in, Says};
 
-use crate::context::{Context, Going, Scene};
-use crate::defs::Defs;
+use crate::context::{Context, Going};
 use crate::ending::{Ending, Missing};
 use crate::evaluate::value_of;
 use crate::outward::Upcall;
 use evaluation_steps::Halt;
 use expr_tree::{Expr, Limits, Stop};
+use frame_steps::Scene;
+use kernel_defs::Defs;
 use std::alloc::Global;
 
 /// How an evaluation ended.
@@ -65,8 +65,8 @@ pub fn eval<U: Upcall>(
     requires bounded { AreBounded limits.now }
     requires ready { U.ready up.old }
     ensures explained { (events : List Event)
-        × Explain U.step (v.eval (setting context.now limits.now) (defs_in defs.old) e.now) up.old [] events up.new
-        × Says (setting context.now limits.now) (v.eval (setting context.now limits.now) (defs_in defs.old) e.now) events result.outcome (ended_in (defs_in defs.new) result) }
+        × Explain U.step (v.eval (setting context.now limits.now) defs.old e.now) up.old [] events up.new
+        × Says (setting context.now limits.now) (v.eval (setting context.now limits.now) defs.old e.now) events result.outcome (ended_in defs.new result) }
     ensures ready { U.ready up.new }
 {
     let scene = Scene {

@@ -1,10 +1,6 @@
-ghost use Rattle.builtin_names.specs.Named.{HasBuiltins};
-ghost use Rattle.evaluation_steps.specs.Stopping.{AreBounded};
-
-use crate::outward::Mode;
-use expr_tree::{Limits, Syms};
+use expr_tree::Syms;
+use frame_steps::Mode;
 use name_table::Names;
-use std::alloc::Global;
 
 /// Where an expression is evaluated.
 #[derive(Clone, Copy)]
@@ -12,18 +8,6 @@ pub struct Context<'a> {
     pub names: &'a Names,
     pub mode: Mode,
     pub kernel: u32,
-}
-
-/// What does not change during an evaluation.
-#[derive(Drop)]
-pub(crate) struct Scene<'a> {
-    pub alloc: Global,
-    pub names: &'a Names,
-    pub limits: Limits,
-    pub mode: Mode,
-    pub kernel: u32,
-    ghost builtins: { HasBuiltins names.now },
-    ghost bounded: { AreBounded limits },
 }
 
 /// What changes besides the definitions.

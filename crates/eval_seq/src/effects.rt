@@ -3,15 +3,14 @@ ghost use Rattle.std.specs.Prelude.{◌≡◌};
 ghost use Rattle.expr_tree.specs.Tree.{call};
 ghost use Rattle.evaluation_steps.specs.Stopping.{AreBounded};
 ghost use Rattle.evaluation_steps.specs.Words.{Called, Counted, Fits};
-ghost use Rattle.eval_seq.specs.Defined.{defs_in};
 ghost use Rattle.eval_seq.specs.Outward.{call_of, Guarded};
 ghost use Rattle.eval_seq.specs.Setup.{state_of};
 
 use crate::context::Going;
-use crate::defs::Defs;
 use crate::outward::{Answer, Upcall, Want};
 use evaluation_steps::{Halt, fits};
 use expr_tree::{Expr, Limits, Stop};
+use kernel_defs::Defs;
 
 /// Calls the outside.
 pub(crate) fn outward<U: Upcall>(
@@ -21,7 +20,7 @@ pub(crate) fn outward<U: Upcall>(
     want: Want,
 ) -> Result<Expr, Halt>
     requires { U.ready up.old }
-    ensures { Called (Guarded U.step U.ready) (call_of want) up.old (state_of (defs_in defs.old) going.now) result (state_of (defs_in defs.new) going.now) up.new }
+    ensures { Called (Guarded U.step U.ready) (call_of want) up.old (state_of defs.old going.now) result (state_of defs.new going.now) up.new }
 {
     let _steps = going.steps;
     match up.call(defs, want) {

@@ -15,10 +15,6 @@ pub(crate) enum Ending {
 pub enum Missing {
     /// A row of the built-in table.
     Row(Builtin),
-    /// Trying rules.
-    Rules,
-    /// Applying a `Function`.
-    Function,
 }
 
 impl From<Halt> for Ending {

@@ -3,26 +3,33 @@ ghost use Rattle.std.specs.Prelude.{IfOk};
 ghost use Rattle.expr_tree.specs.Tree.{call};
 ghost use Rattle.semantics.specs.Pass as p;
 ghost use Rattle.semantics.specs.Assemble as a;
+ghost use Rattle.semantics.specs.Program.{Within};
 ghost use Rattle.builtin_names.specs.Attributes.{attributes_in};
 ghost use Rattle.builtin_names.specs.Named.{names_in};
-ghost use Rattle.eval_seq.specs.Defined.{defs_in};
+ghost use Rattle.frames_scope.specs.Reading.{locals_in};
 ghost use Rattle.eval_seq.specs.Outward.{Guarded};
-ghost use Rattle.eval_seq.specs.Setup.{setting_of, state_of};
-ghost use Rattle.eval_seq.specs.Walks.{or_itself, Evaluates, Settles, Runs, PassOf};
-ghost use Rattle.eval_seq.specs.Sequence.{one_asked, firsts, spliced_of, Turned, Within};
+ghost use Rattle.frame_steps.specs.Setup.{setting_of};
+ghost use Rattle.eval_seq.specs.Setup.{state_of};
+ghost use Rattle.eval_seq.specs.Walks.{or_itself, Evaluates, Settles, Runs, PassOf, Stepped};
+ghost use Rattle.eval_seq.specs.Driven.{driven, Follows};
+ghost use Rattle.eval_seq.specs.Sequence.{last_of, one_asked, firsts, spliced_of, unless_held, Turned, IsWithin};
 
-use crate::assemble::Spliced;
-use crate::context::{Going, Scene};
-use crate::defs::Defs;
+use crate::assemble::{Assembled, Spliced, assemble, listed};
+use crate::context::Going;
 use crate::effects::{check, check_call, count};
 use crate::ending::Ending;
+use crate::machine::{Followed, Start};
 use crate::outward::Upcall;
-use crate::steps::later;
+use crate::put_by::put_by;
+use crate::steps::{head_row_start, head_start, up_start};
 use crate::symbols::{attrs_under, own};
 use attr_steps::{holds_first, holds_rest, is_asked, spliced};
 use evaluation_steps::Halt;
-use expr_tree::{Attrs, Expr, Exprs, Node, Stop};
+use expr_tree::{Attrs, Expr, Exprs, Node, Stop, symbol_of};
+use frame_steps::{Move, Scene};
+use frames_scope::Locals;
 use item_list::Items;
+use kernel_defs::Defs;
 
 /// Evaluates an expression, with `left` nested evaluations left. `None` is the expression itself.
 #[cycle(evaluate)]
@@ -35,7 +42,7 @@ pub(crate) fn evaluate<U: Upcall>(
     e: &Expr,
 ) -> Result<Option<Expr>, Ending>
     requires { U.ready up.old }
-    ensures { Evaluates (Guarded U.step U.ready) (setting_of scene.now) left e.now up.old (state_of (defs_in defs.old) going.old) (or_itself e.now result) (state_of (defs_in defs.new) going.new) up.new }
+    ensures { Evaluates (Guarded U.step U.ready) (setting_of scene.now) left e.now up.old (state_of defs.old going.old) (or_itself e.now result) (state_of defs.new going.new) up.new }
 {
     if left == 0 {
         return Err(Ending::Halt(Halt::Stopped(Stop::Recursion)));
@@ -54,7 +61,7 @@ fn settle<U: Upcall>(
     e: &Expr,
 ) -> Result<Option<Expr>, Ending>
     requires { U.ready up.old }
-    ensures { Settles (Guarded U.step U.ready) (setting_of scene.now) left scene.now.limits.iteration e.now up.old (state_of (defs_in defs.old) going.old) (or_itself e.now result) (state_of (defs_in defs.new) going.new) up.new }
+    ensures { Settles (Guarded U.step U.ready) (setting_of scene.now) left scene.now.limits.iteration e.now up.old (state_of defs.old going.old) (or_itself e.now result) (state_of defs.new going.new) up.new }
 {
     let changes = scene.limits.iteration;
     let Some(value) = turn(scene, left, defs, up, going, changes, e)? else {
@@ -76,7 +83,7 @@ fn settle_rest<U: Upcall>(
     e: Expr,
 ) -> Result<Expr, Ending>
     requires { U.ready up.old }
-    ensures { Settles (Guarded U.step U.ready) (setting_of scene.now) left changes e up.old (state_of (defs_in defs.old) going.old) result (state_of (defs_in defs.new) going.new) up.new }
+    ensures { Settles (Guarded U.step U.ready) (setting_of scene.now) left changes e up.old (state_of defs.old going.old) result (state_of defs.new going.new) up.new }
 {
     let mut e = e;
     let mut changes = changes;
@@ -101,7 +108,7 @@ fn turn<U: Upcall>(
     e: &Expr,
 ) -> Result<Option<Expr>, Ending>
     requires { U.ready up.old }
-    ensures { Turned (Guarded U.step U.ready) (setting_of scene.now) left changes e.now up.old (state_of (defs_in defs.old) going.old) result (state_of (defs_in defs.new) going.new) up.new }
+    ensures { Turned (Guarded U.step U.ready) (setting_of scene.now) left changes e.now up.old (state_of defs.old going.old) result (state_of defs.new going.new) up.new }
 {
     let Some(value) = pass(scene, left, defs, up, going, e)? else {
         check(&scene.limits, e)?;
@@ -129,7 +136,7 @@ fn pass<U: Upcall>(
     e: &Expr,
 ) -> Result<Option<Expr>, Ending>
     requires { U.ready up.old }
-    ensures { PassOf (Guarded U.step U.ready) (setting_of scene.now) left (p.pass (names_in scene.now.names.now) e.now) up.old (state_of (defs_in defs.old) going.old) (or_itself e.now result) (state_of (defs_in defs.new) going.new) up.new }
+    ensures { PassOf (Guarded U.step U.ready) (setting_of scene.now) left (p.pass (names_in scene.now.names.now) e.now) up.old (state_of defs.old going.old) (or_itself e.now result) (state_of defs.new going.new) up.new }
 {
     match e.node() {
         Node::Int(_) => Ok(None),
@@ -151,10 +158,10 @@ fn normal<U: Upcall>(
     items: &[Expr],
 ) -> Result<Option<Expr>, Ending>
     requires { U.ready up.old }
-    ensures { PassOf (Guarded U.step U.ready) (setting_of scene.now) left (a.first_steps (names_in scene.now.names.now) head.now items.now (p.later_steps (names_in scene.now.names.now))) up.old (state_of (defs_in defs.old) going.old) (or_itself (call head.now items.now) result) (state_of (defs_in defs.new) going.new) up.new }
+    ensures { PassOf (Guarded U.step U.ready) (setting_of scene.now) left (a.first_steps (names_in scene.now.names.now) head.now items.now (p.later_steps (names_in scene.now.names.now))) up.old (state_of defs.old going.old) (or_itself (call head.now items.now) result) (state_of defs.new going.new) up.new }
 {
     let first = first_steps(scene, left, defs, up, going, head, items)?;
-    let value = later(scene, defs, up, going, first)?;
+    let value = later(scene, left, defs, up, going, first)?;
     Ok(Some(value))
 }
 
@@ -170,8 +177,8 @@ pub(crate) fn first_steps<U: Upcall>(
     items: &[Expr],
 ) -> Result<Spliced, Ending>
     requires { U.ready up.old }
-    ensures runs { Runs (Guarded U.step U.ready) (setting_of scene.now) left (firsts (names_in scene.now.names.now) head.now items.now) up.old (state_of (defs_in defs.old) going.old) (spliced_of result) (state_of (defs_in defs.new) going.new) up.new }
-    ensures within { IfOk result (λ s. Within s.head s.items) }
+    ensures runs { Runs (Guarded U.step U.ready) (setting_of scene.now) left (firsts (names_in scene.now.names.now) head.now items.now) up.old (state_of defs.old going.old) (spliced_of result) (state_of defs.new going.new) up.new }
+    ensures within { IfOk result (λ s. IsWithin s.head s.items) }
 {
     let head = value_of(scene, left, defs, up, going, head)?;
     let attrs = attrs_under(scene.names, defs, &head);
@@ -192,7 +199,7 @@ pub(crate) fn value_of<U: Upcall>(
     e: &Expr,
 ) -> Result<Expr, Ending>
     requires { U.ready up.old }
-    ensures { Evaluates (Guarded U.step U.ready) (setting_of scene.now) left e.now up.old (state_of (defs_in defs.old) going.old) result (state_of (defs_in defs.new) going.new) up.new }
+    ensures { Evaluates (Guarded U.step U.ready) (setting_of scene.now) left e.now up.old (state_of defs.old going.old) result (state_of defs.new going.new) up.new }
 {
     match evaluate(scene, left, defs, up, going, e)? {
         Some(value) => Ok(value),
@@ -212,7 +219,7 @@ fn elements<U: Upcall>(
     items: &[Expr],
 ) -> Result<Exprs, Ending>
     requires { U.ready up.old }
-    ensures { Runs (Guarded U.step U.ready) (setting_of scene.now) left (a.ask_items (names_in scene.now.names.now) (attributes_in attrs.now) items.now) up.old (state_of (defs_in defs.old) going.old) result (state_of (defs_in defs.new) going.new) up.new }
+    ensures { Runs (Guarded U.step U.ready) (setting_of scene.now) left (a.ask_items (names_in scene.now.names.now) (attributes_in attrs.now) items.now) up.old (state_of defs.old going.old) result (state_of defs.new going.new) up.new }
 {
     let mut held = holds_first(attrs);
     let mut done = Items::new(scene.alloc);
@@ -237,10 +244,216 @@ fn element<U: Upcall>(
     item: &Expr,
 ) -> Result<Expr, Ending>
     requires { U.ready up.old }
-    ensures { Runs (Guarded U.step U.ready) (setting_of scene.now) left (one_asked (names_in scene.now.names.now) (attributes_in attrs.now) held item.now) up.old (state_of (defs_in defs.old) going.old) result (state_of (defs_in defs.new) going.new) up.new }
+    ensures { Runs (Guarded U.step U.ready) (setting_of scene.now) left (one_asked (names_in scene.now.names.now) (attributes_in attrs.now) held item.now) up.old (state_of defs.old going.old) result (state_of defs.new going.new) up.new }
 {
     if !is_asked(scene.names, attrs, held, item) {
         return Ok(item.copy(scene.alloc)?);
     }
     value_of(scene, left, defs, up, going, item)
+}
+
+/// What follows splicing.
+#[cycle(evaluate)]
+fn later<U: Upcall>(
+    scene: &Scene,
+    left: u32,
+    defs: &mut Defs,
+    up: &mut U,
+    going: &mut Going,
+    first: Spliced,
+) -> Result<Expr, Ending>
+    requires ready { U.ready up.old }
+    requires within { IsWithin first.head first.items }
+    ensures { PassOf (Guarded U.step U.ready) (setting_of scene.now) left (p.later_steps (names_in scene.now.names.now) first.head (attributes_in first.attrs) first.items) up.old (state_of defs.old going.old) result (state_of defs.new going.new) up.new }
+{
+    let Spliced { head, attrs, items } = first;
+    match assemble(scene.alloc, scene.names, head, &attrs, items)? {
+        Assembled::Threaded(each) => match listed(scene.alloc, scene.names, &scene.limits, each) {
+            Ok(value) => Ok(value),
+            Err(halt) => Err(Ending::Halt(halt)),
+        },
+        Assembled::Call(whole, standing) => {
+            match last_steps(scene, left, defs, up, going, &attrs, &whole)? {
+                Some(value) => Ok(value),
+                None => Ok(standing.unwrap_or(whole)),
+            }
+        }
+    }
+}
+
+/// Tries the rules of an assembled expression, and its row.
+#[cycle(evaluate)]
+fn last_steps<U: Upcall>(
+    scene: &Scene,
+    left: u32,
+    defs: &mut Defs,
+    up: &mut U,
+    going: &mut Going,
+    attrs: &Attrs,
+    whole: &Expr,
+) -> Result<Option<Expr>, Ending>
+    requires { U.ready up.old }
+    ensures { Stepped (Guarded U.step U.ready) (setting_of scene.now) left (λ rest. last_of (names_in scene.now.names.now) (attributes_in attrs.now) whole.now rest) up.old (state_of defs.old going.old) result (state_of defs.new going.new) up.new }
+{
+    match whole.node() {
+        Node::Normal(head, items) => {
+            call_steps(scene, left, defs, up, going, attrs, whole, head, items)
+        }
+        Node::Int(_) => Ok(None),
+        Node::Str(_) => Ok(None),
+        Node::Symbol(_) => Ok(None),
+    }
+}
+
+/// Tries the up rules of the elements, the down rules of the head, and its row.
+#[cycle(evaluate)]
+fn call_steps<U: Upcall>(
+    scene: &Scene,
+    left: u32,
+    defs: &mut Defs,
+    up: &mut U,
+    going: &mut Going,
+    attrs: &Attrs,
+    whole: &Expr,
+    head: &Expr,
+    items: &Exprs,
+) -> Result<Option<Expr>, Ending>
+    requires { U.ready up.old }
+    ensures { Stepped (Guarded U.step U.ready) (setting_of scene.now) left (λ rest. p.last_steps (names_in scene.now.names.now) (attributes_in attrs.now) items.now whole.now rest head.now) up.old (state_of defs.old going.old) result (state_of defs.new going.new) up.new }
+{
+    if let Some(value) = up_steps(scene, left, defs, up, going, attrs, whole, items)? {
+        return Ok(Some(value));
+    }
+    down_steps(scene, left, defs, up, going, whole, head, items)
+}
+
+/// Tries the up rules of the symbol of each element, unless all is held.
+#[cycle(evaluate)]
+fn up_steps<U: Upcall>(
+    scene: &Scene,
+    left: u32,
+    defs: &mut Defs,
+    up: &mut U,
+    going: &mut Going,
+    attrs: &Attrs,
+    whole: &Expr,
+    items: &Exprs,
+) -> Result<Option<Expr>, Ending>
+    requires { U.ready up.old }
+    ensures { Stepped (Guarded U.step U.ready) (setting_of scene.now) left (λ rest. unless_held (names_in scene.now.names.now) (attributes_in attrs.now) items.now whole.now rest) up.old (state_of defs.old going.old) result (state_of defs.new going.new) up.new }
+{
+    if attrs.hold_all_complete {
+        return Ok(None);
+    }
+    for item in items.as_slice() {
+        let symbol = symbol_of(item);
+        let rules = up_start(scene, defs, up, going, symbol, whole)?;
+        if let Some(value) = drive(scene, left, defs, up, going, rules)? {
+            return Ok(Some(value));
+        }
+    }
+    Ok(None)
+}
+
+/// Tries the down rules of a head, and its row.
+#[cycle(evaluate)]
+fn down_steps<U: Upcall>(
+    scene: &Scene,
+    left: u32,
+    defs: &mut Defs,
+    up: &mut U,
+    going: &mut Going,
+    whole: &Expr,
+    head: &Expr,
+    items: &Exprs,
+) -> Result<Option<Expr>, Ending>
+    requires { U.ready up.old }
+    ensures { Stepped (Guarded U.step U.ready) (setting_of scene.now) left (λ rest. p.down_rules (names_in scene.now.names.now) head.now items.now whole.now rest) up.old (state_of defs.old going.old) result (state_of defs.new going.new) up.new }
+{
+    let rules = head_start(scene, defs, up, going, whole, head, items.as_slice())?;
+    if let Some(value) = drive(scene, left, defs, up, going, rules)? {
+        return Ok(Some(value));
+    }
+    let row = head_row_start(scene, defs, up, going, whole, head, items)?;
+    drive(scene, left, defs, up, going, row)
+}
+
+/// Performs a step that has begun, to its result or none.
+#[cycle(evaluate)]
+fn drive<U: Upcall>(
+    scene: &Scene,
+    left: u32,
+    defs: &mut Defs,
+    up: &mut U,
+    going: &mut Going,
+    start: Start,
+) -> Result<Option<Expr>, Ending>
+    requires { U.ready up.old }
+    ensures { Stepped (Guarded U.step U.ready) (setting_of scene.now) left (driven (names_in scene.now.names.now) start) up.old (state_of defs.old going.old) result (state_of defs.new going.new) up.new }
+{
+    let mut frame = match start {
+        Start::Given(value) => return Ok(value),
+        Start::Machine(frame) => frame,
+    };
+    let mut answer = None;
+    'steps: loop {
+        let next = frame.step(scene, defs, &mut going.used, answer)?;
+        match follow(scene, left, defs, up, going, next)? {
+            Followed::Ends(value) => return Ok(value),
+            Followed::Goes(given) => answer = given,
+        }
+    }
+}
+
+/// Does what a machine asks for.
+#[cycle(evaluate)]
+fn follow<U: Upcall>(
+    scene: &Scene,
+    left: u32,
+    defs: &mut Defs,
+    up: &mut U,
+    going: &mut Going,
+    next: Move,
+) -> Result<Followed, Ending>
+    requires { U.ready up.old }
+    ensures { Follows (Guarded U.step U.ready) (setting_of scene.now) left next up.old (state_of defs.old going.old) result (state_of defs.new going.new) up.new }
+{
+    match next {
+        Move::Ask(e, turn) => {
+            count(&scene.limits, turn, going)?;
+            let value = value_of(scene, left, defs, up, going, &e)?;
+            Ok(Followed::Goes(Some(value)))
+        }
+        Move::Within(locals, e, begins) => {
+            count(&scene.limits, begins, going)?;
+            let value = value_within(scene, left, defs, up, going, &locals, &e)?;
+            Ok(Followed::Goes(Some(value)))
+        }
+        Move::Turn => {
+            count(&scene.limits, true, going)?;
+            Ok(Followed::Goes(None))
+        }
+        Move::Done(e) => Ok(Followed::Ends(Some(e))),
+        Move::Stays => Ok(Followed::Ends(None)),
+    }
+}
+
+/// The value of an expression with locals put by, which are put back however it ends.
+#[cycle(evaluate)]
+fn value_within<U: Upcall>(
+    scene: &Scene,
+    left: u32,
+    defs: &mut Defs,
+    up: &mut U,
+    going: &mut Going,
+    locals: &Locals,
+    e: &Expr,
+) -> Result<Expr, Ending>
+    requires { U.ready up.old }
+    ensures { Runs (Guarded U.step U.ready) (setting_of scene.now) left (Within (locals_in locals.now) e.now) up.old (state_of defs.old going.old) result (state_of defs.new going.new) up.new }
+{
+    let saved = put_by(scene, defs, locals)?;
+    let value = value_of(scene, left, defs, up, going, e);
+    defs.put_back(scene.names, saved);
+    value
 }

@@ -4,17 +4,19 @@
 mod assemble;
 mod call;
 mod context;
-mod defs;
 mod effects;
 mod ending;
 mod evaluate;
+mod machine;
 mod outward;
+mod put_by;
 mod rows;
 mod steps;
 mod symbols;
 
 pub use call::{Ended, Outcome, eval};
 pub use context::Context;
-pub use defs::Defs;
 pub use ending::Missing;
-pub use outward::{Answer, Mode, Upcall, Want};
+pub use frame_steps::Mode;
+pub use kernel_defs::Defs;
+pub use outward::{Answer, Upcall, Want};

@@ -1,17 +1,8 @@
 //! The outside of an evaluation.
-ghost use Rattle.eval_seq.specs.Defined.{defs_in};
 ghost use Rattle.eval_seq.specs.Outward.{call_of, reply_of};
 
-use crate::defs::Defs;
 use expr_tree::{Expr, Stop, Syms, Text};
-
-/// Where an evaluation runs: a cell of a script, an item of the queue, or the service of an access.
-#[derive(Clone, Copy, Debug, PartialEq, Eq)]
-pub enum Mode {
-    Cell,
-    Item,
-    Service,
-}
+use kernel_defs::Defs;
 
 /// What an evaluation asks of the outside.
 #[derive(Drop)]
@@ -52,6 +43,6 @@ pub trait Upcall {
 
     fn call(&mut self, defs: &mut Defs, want: Want) -> Answer
         requires { ready self.old }
-        ensures step { step self.old (defs_in defs.old) (call_of want) (reply_of result) (defs_in defs.new) self.new }
+        ensures step { step self.old defs.old (call_of want) (reply_of result) defs.new self.new }
         ensures ready { ready self.new };
 }

@@ -1,8 +1,84 @@
 //! The rows of the built-in table that are built.
 ghost use Rattle.std.specs.Prelude.{◌≡◌};
+ghost use Rattle.expr_tree.specs.Tree.{Tree};
+ghost use Rattle.semantics.specs.Scoping.{apply_function};
+ghost use Rattle.semantics.specs.Table as t;
+ghost use Rattle.semantics.specs.Worked.{Worked};
+ghost use Rattle.builtin_names.specs.Named.{names_in};
+ghost use Rattle.builtin_names.specs.Results.{IsFaultOf, Works};
+ghost use Rattle.evaluation_steps.specs.Stopping.{AreBounded, HaltsFor};
+ghost use Rattle.evaluation_steps.specs.declared.Halt.{Halt};
+ghost use Rattle.frame_steps.specs.Setup.{setting_of};
 ghost use Rattle.eval_seq.specs.Built.{is_plain};
+ghost use Rattle.eval_seq.specs.Driven.{Opens};
 
+use crate::ending::{Ending, Missing};
+use crate::machine::Start;
+use builtin_names::Fault;
+use element_rows::rewrite;
+use evaluation_steps::Halt;
+use expr_tree::{Expr, Exprs, Limits, Stop};
+use frame_steps::Scene;
+use function_calls::apply;
+use row_frames::Frame;
 use semantics::Builtin;
+
+/// Why an evaluation ends where a row makes no result.
+fn halt_for(limits: &Limits, fault: Fault) -> Halt
+    requires bounded { AreBounded limits.now }
+    ensures large { (t : Tree) → IsFaultOf t fault → HaltsFor limits.now t result }
+    ensures range { fault ≡ Fault.Range → result ≡ Halt.Stopped Stop.Range }
+    ensures memory { fault ≡ Fault.NoMemory → result ≡ Halt.NoMemory }
+{
+    match fault {
+        Fault::Range => Halt::Stopped(Stop::Range),
+        Fault::TooLarge => Halt::Stopped(Stop::Size),
+        Fault::TooDeep(nodes) => {
+            if limits.size < nodes {
+                Halt::Stopped(Stop::Size)
+            } else {
+                Halt::Stopped(Stop::Depth)
+            }
+        }
+        Fault::NoMemory => Halt::NoMemory,
+    }
+}
+
+/// What a row makes of its elements.
+fn made(scene: &Scene, worked: Result<Option<Expr>, Fault>) -> Result<Start, Ending>
+    ensures { (w : Worked) → Works w worked → Opens (setting_of scene.now) (λ rest. t.as_program rest w) result }
+{
+    match worked {
+        Ok(value) => Ok(Start::Given(value)),
+        Err(fault) => Err(Ending::Halt(halt_for(&scene.limits, fault))),
+    }
+}
+
+/// How a row of the built-in table begins.
+pub(crate) fn row_start(scene: &Scene, row: Builtin, items: &Exprs) -> Result<Start, Ending>
+    ensures { Opens (setting_of scene.now) (λ rest. t.row (names_in scene.now.names.now) row rest items.now) result }
+{
+    if is_plain(row) {
+        return Ok(Start::Given(None));
+    }
+    if let Some(worked) = rewrite(scene.alloc, row, scene.names, items) {
+        return made(scene, worked);
+    }
+    let Some(started) = Frame::start(scene.alloc, scene.names, row, items.as_slice()) else {
+        return Err(Ending::Unbuilt(Missing::Row(row)));
+    };
+    match started? {
+        Some(frame) => Ok(Start::Machine(frame)),
+        None => Ok(Start::Given(None)),
+    }
+}
+
+/// How the application of a `Function` begins.
+pub(crate) fn function_start(scene: &Scene, parts: &[Expr], args: &[Expr]) -> Result<Start, Ending>
+    ensures { Opens (setting_of scene.now) (λ rest. apply_function (names_in scene.now.names.now) rest parts.now args.now) result }
+{
+    made(scene, apply(scene.alloc, scene.names, parts, args))
+}
 
 /// Whether a row has no equation.
 pub(crate) fn is_plain(row: Builtin) -> bool

@@ -8,27 +8,28 @@ ghost use Rattle.semantics.specs.Sections.{unless_access};
 ghost use Rattle.builtin_names.specs.Attributes.{attributes_in};
 ghost use Rattle.builtin_names.specs.Named.{HasBuiltins, names_in};
 ghost use Rattle.shared_calls.specs.View.{share_of};
-ghost use Rattle.eval_seq.specs.Defined.{defs_in};
-ghost use Rattle.eval_seq.specs.Outward.{Guarded, mode_of};
-ghost use Rattle.eval_seq.specs.Setup.{setting_of, state_of};
+ghost use Rattle.eval_seq.specs.Outward.{Guarded};
+ghost use Rattle.frame_steps.specs.Setup.{mode_of, setting_of};
+ghost use Rattle.eval_seq.specs.Setup.{state_of};
 ghost use Rattle.eval_seq.specs.Walks.{or_itself, PassOf};
 ghost use Rattle.eval_seq.specs.Sequence.{attributes_seen, is_item, Marks, Uses};
 
-use crate::context::{Going, Scene};
-use crate::defs::Defs;
+use crate::context::Going;
 use crate::effects::outward;
 use crate::ending::Ending;
-use crate::outward::{Mode, Upcall, Want};
+use crate::outward::{Upcall, Want};
 use builtin_names::is_known;
 use expr_tree::{Attrs, Expr, Node, Sym};
+use frame_steps::{Mode, Scene};
+use kernel_defs::Defs;
 use name_table::Names;
 use semantics::Builtin;
-use shared_calls::{ShareKind, accesses_are_sent};
+use shared_calls::{ShareKind, accesses_are_sent, changed_symbol};
 
 /// The attributes of a head.
 pub(crate) fn attrs_under(names: &Names, defs: &Defs, head: &Expr) -> Attrs
     requires names { HasBuiltins names.now }
-    ensures { attributes_in result ≡ attributes_seen (names_in names.now) (defs_in defs.now) head.now }
+    ensures { attributes_in result ≡ attributes_seen (names_in names.now) defs.now head.now }
 {
     match head.node() {
         Node::Symbol(symbol) => defs.attrs_of(names, *symbol),
@@ -55,9 +56,9 @@ pub(crate) fn marks(
     kind: ShareKind,
     symbol: Sym,
 ) -> bool
-    ensures { Marks (setting_of scene.now) (share_of kind) symbol (state_of (defs_in defs.now) going.old) result (state_of (defs_in defs.now) going.new) }
+    ensures { Marks (setting_of scene.now) (share_of kind) symbol (state_of defs.now going.old) result (state_of defs.now going.new) }
 {
-    let Some(found) = defs.kind_of(symbol) else {
+    let Some(found) = defs.shared().kind_of(symbol) else {
         return false;
     };
     going.used = true;
@@ -73,10 +74,10 @@ pub(crate) fn changes(
     row: Sym,
     items: &[Expr],
 ) -> bool
-    ensures { Uses (setting_of scene.now) (λ e p. unless_access (names_in scene.now.names.now) (symbol row) items.now e p) (state_of (defs_in defs.now) going.old) result (state_of (defs_in defs.now) going.new) }
+    ensures { Uses (setting_of scene.now) (λ e p. unless_access (names_in scene.now.names.now) (symbol row) items.now e p) (state_of defs.now going.old) result (state_of defs.now going.new) }
 {
     accesses_are_sent();
-    if defs.changed(scene.names, row, items).is_none() {
+    if changed_symbol(defs.shared(), scene.names, row, items).is_none() {
         return false;
     }
     going.used = true;
@@ -92,7 +93,7 @@ pub(crate) fn send_access<U: Upcall>(
     e: Expr,
 ) -> Result<Expr, Ending>
     requires { U.ready up.old }
-    ensures { (n : ℕ) → PassOf (Guarded U.step U.ready) (setting_of _scene.now) n (Outer (Access e) Done) up.old (state_of (defs_in defs.old) going.now) result (state_of (defs_in defs.new) going.now) up.new }
+    ensures { (n : ℕ) → PassOf (Guarded U.step U.ready) (setting_of _scene.now) n (Outer (Access e) Done) up.old (state_of defs.old going.now) result (state_of defs.new going.now) up.new }
 {
     match outward(defs, up, going, Want::Access(e)) {
         Ok(v) => Ok(v),
@@ -109,7 +110,7 @@ fn symbol_row<U: Upcall>(
     symbol: Sym,
 ) -> Result<Option<Expr>, Ending>
     requires { U.ready up.old }
-    ensures { (n : ℕ) → PassOf (Guarded U.step U.ready) (setting_of scene.now) n (symbol_row (names_in scene.now.names.now) symbol) up.old (state_of (defs_in defs.old) going.old) (or_itself (Rattle.expr_tree.specs.Tree.symbol symbol) result) (state_of (defs_in defs.new) going.new) up.new }
+    ensures { (n : ℕ) → PassOf (Guarded U.step U.ready) (setting_of scene.now) n (symbol_row (names_in scene.now.names.now) symbol) up.old (state_of defs.old going.old) (or_itself (Rattle.expr_tree.specs.Tree.symbol symbol) result) (state_of defs.new going.new) up.new }
 {
     if is_known(scene.names, Builtin::KernelID, symbol) {
         going.used = true;
@@ -134,7 +135,7 @@ pub(crate) fn own<U: Upcall>(
     symbol: Sym,
 ) -> Result<Option<Expr>, Ending>
     requires { U.ready up.old }
-    ensures { (n : ℕ) → PassOf (Guarded U.step U.ready) (setting_of scene.now) n (symbol_pass (names_in scene.now.names.now) symbol) up.old (state_of (defs_in defs.old) going.old) (or_itself (Rattle.expr_tree.specs.Tree.symbol symbol) result) (state_of (defs_in defs.new) going.new) up.new }
+    ensures { (n : ℕ) → PassOf (Guarded U.step U.ready) (setting_of scene.now) n (symbol_pass (names_in scene.now.names.now) symbol) up.old (state_of defs.old going.old) (or_itself (Rattle.expr_tree.specs.Tree.symbol symbol) result) (state_of defs.new going.new) up.new }
 {
     if marks(scene, defs, going, ShareKind::Variable, symbol) {
         let value = send_access(scene, defs, up, going, Expr::symbol(symbol))?;

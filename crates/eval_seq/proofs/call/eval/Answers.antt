@@ -1,4 +1,3 @@
-use Rattle.eval_seq.specs.Defined.{defs_in}
 use Rattle.eval_seq.specs.Setup.{state_of}
 use Rattle.eval_seq.specs.Told.{setting}
 use Rattle.eval_seq.proofs.Readiness.{ready_evaluates}
@@ -8,7 +7,7 @@ use Rattle.eval_seq.proofs.call.eval.Goals as goal
 pub returns-clause-explained : goal.returns-clause-explained
 returns-clause-explained g c =
     let end = c.value_of-end in
-    rw c.outcome_of.ensures (told (setting c.args.context.now c.args.limits.now) (defs_in c.args.defs.now) c.args.e.now end.result (state_of (defs_in end.new.defs) end.new.going) end.ensures)
+    rw c.outcome_of.ensures (told (setting c.args.context.now c.args.limits.now) c.args.defs.now c.args.e.now end.result (state_of end.new.defs end.new.going) end.ensures)
 
 pub returns-clause-ready : goal.returns-clause-ready
 returns-clause-ready g c = ready_evaluates c.value_of-end.ensures c.requires.ready

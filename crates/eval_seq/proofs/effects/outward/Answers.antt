@@ -1,5 +1,4 @@
 use Rattle.evaluation_steps.proofs.Laws.{called_value, called_stop, called_closed, called_memory}
-use Rattle.eval_seq.specs.Defined.{defs_in}
 use Rattle.eval_seq.proofs.effects.outward.Goals as goal
 
 pub returns-in-Value : goal.returns-in-Value
@@ -12,4 +11,4 @@ pub returns-in-Closed : goal.returns-in-Closed
 returns-in-Closed g c = called_closed (c.in-Closed.ensures.step, c.in-Closed.ensures.ready)
 
 pub returns-in-NoMemory : goal.returns-in-NoMemory
-returns-in-NoMemory g c = called_memory (defs_in c.call.new.defs) (c.in-NoMemory.ensures.step, c.in-NoMemory.ensures.ready)
+returns-in-NoMemory g c = called_memory c.call.new.defs (c.in-NoMemory.ensures.step, c.in-NoMemory.ensures.ready)

@@ -1,13 +1,20 @@
-use Rattle.std.proofs.Common.{rules, arith, ◌≡◌, sym, ◌∙◌}
+use Rattle.std.proofs.Common.{rules, arith, ◌≡◌, sym, ◌∙◌, Ok, Err}
+use Rattle.std.specs.Prelude.{unwrap_or}
 use Rattle.expr_tree.specs.Tree.{integer, string, symbol, normal, trees, call}
 use Rattle.expr_tree.proofs.Trees.{elements-trees}
+use Rattle.semantics.specs.Program.{Done, Ask, Within}
 use Rattle.builtin_names.specs.Attributes.{attributes_in}
-use Rattle.evaluation_steps.proofs.Laws.{led_on, passed_here, passed_on, played_done}
+use Rattle.builtin_names.proofs.Flags.{has_hold_all_complete}
+use Rattle.frames_scope.specs.Reading.{locals_in}
+use Rattle.evaluation_steps.proofs.Laws.{led_on, passed_here, passed_on, played_done, reached_here}
 use Rattle.eval_seq.specs.Walks.{valued}
-use Rattle.eval_seq.proofs.Walking.{evaluates_out, evaluates_deep, evaluates_err, runs_err, runs_lost, runs_led, settles_err, settles_pass_out, settles_value}
+use Rattle.eval_seq.proofs.Walking.{evaluates_out, evaluates_deep, evaluates_err, pass_lost, runs_ask, runs_err, runs_lost, runs_led, settles_err, settles_pass_out, settles_value}
+use Rattle.eval_seq.proofs.Answered.{pass_answers}
+use Rattle.eval_seq.proofs.Driving.{begins_on, driven_given, driven_goes, driven_ends, driven_out, driven_halts, follows_asked, follows_asked_out, follows_within, follows_within_out, follows_turn, follows_turn_out, follows_done, follows_stays, follows_err, runs_turning, runs_turning_out, runs_put_back}
+use Rattle.eval_seq.proofs.StepLaws.{stepped_err, down_value, down_out, down_on, ups_out, ups_value, ups_on, ups_done, ups_held, ups_free, finish_value, finish_out, finish_stays, later_listed, later_whole, call_value, call_out, call_on, stepped_last, stepped_here}
 use Rattle.eval_seq.proofs.SymbolLaws.{pass_err_or}
 use Rattle.eval_seq.proofs.SequenceLaws.{runs_held, runs_asked, led_asking, led_item, item_out, items_done, first_head_out, first_items_out, first_check_out, first_done, turn_itself, turn_same, turn_out, turn_err, turn_large, turn_worn, turn_again_out, turn_again, passed_settles, settles_err_or, evaluates_lost, first_lost, firsts_err, normal_out, normal_on, within_of, within_err}
-use Rattle.eval_seq.proofs.Readiness.{ready_evaluates, ready_runs, ready_turned}
+use Rattle.eval_seq.proofs.Readiness.{ready_evaluates, ready_runs, ready_turned, ready_stepped, ready_begins, ready_follows}
 use Rattle.eval_seq.proofs.evaluate.+evaluate.Goals as goal
 
 -- evaluate
@@ -112,11 +119,11 @@ pass-returns-in-Normal g t c =
 pub normal-first_steps-requires : goal.normal-first_steps-requires
 normal-first_steps-requires g t c = search rules
 
-pub normal-later-requires-clause-ready : goal.normal-later-requires-clause-ready
-normal-later-requires-clause-ready g t c = ready_runs c.in_ok-first.ensures.runs c.requires
-
-pub normal-later-requires-clause-within : goal.normal-later-requires-clause-within
-normal-later-requires-clause-within g t c = c.in_ok-first.ensures.within
+pub normal-later-requires : goal.normal-later-requires
+normal-later-requires g t c =
+    let ready = ready_runs c.in_ok-first.ensures.runs c.requires in
+    let within = c.in_ok-first.ensures.within in
+    search (rules, ready, within)
 
 pub normal-returns-in_err-first : goal.normal-returns-in_err-first
 normal-returns-in_err-first g t c =
@@ -125,10 +132,10 @@ normal-returns-in_err-first g t c =
 pub normal-returns-in_err-value : goal.normal-returns-in_err-value
 normal-returns-in_err-value g t c =
     pass_err_or (call c.args.head.now c.args.items.now) c.from_residual-in_err-value.result c.from_residual-in_err-value.ensures.1
-    (normal_on c.args.head.now c.args.items.now c.in_ok-first.ensures.runs (c.in_err-value.ensures c.args.left))
+    (normal_on c.args.head.now c.args.items.now c.in_ok-first.ensures.runs c.in_err-value.ensures)
 
 pub normal-returns : goal.normal-returns
-normal-returns g t c = normal_on c.args.head.now c.args.items.now c.in_ok-first.ensures.runs (c.in_ok-value.ensures c.args.left)
+normal-returns g t c = normal_on c.args.head.now c.args.items.now c.in_ok-first.ensures.runs c.in_ok-value.ensures
 
 -- first_steps
 pub first_steps-value_of-requires : goal.first_steps-value_of-requires
@@ -245,3 +252,232 @@ settle_rest-overflow_sub-changes g t c = let b = rw c.in-Some.is at c.in_ok-valu
 
 pub settle_rest-passes-smaller : goal.settle_rest-passes-smaller
 settle_rest-passes-smaller g t c = let b = rw c.in-Some.is at c.in_ok-value.ensures in let some = b.by.0 in omega (arith, some)
+
+-- later
+pub later-returns-in_err-each : goal.later-returns-in_err-each
+later-returns-in_err-each g t c = pass_lost c.from_residual.ensures.1
+
+pub later-returns-in-Ok : goal.later-returns-in-Ok
+later-returns-in-Ok g t c =
+    later_listed c.args.first.head (attributes_in c.args.first.attrs) c.args.first.items c.in-Threaded.each (rw c.in-Threaded.is at c.in_ok-each.ensures) (pass_answers (Ok c.in-Ok.value) c.in-Ok.ensures)
+
+pub later-returns-in-Err : goal.later-returns-in-Err
+later-returns-in-Err g t c =
+    later_listed c.args.first.head (attributes_in c.args.first.attrs) c.args.first.items c.in-Threaded.each (rw c.in-Threaded.is at c.in_ok-each.ensures) (pass_answers (Err c.in-Err.halt) c.in-Err.ensures)
+
+pub later-returns-in_err-value-in-Call : goal.later-returns-in_err-value-in-Call
+later-returns-in_err-value-in-Call g t c =
+    let h = rw c.in-Call.is at c.in_ok-each.ensures in
+    later_whole c.args.first.head (attributes_in c.args.first.attrs) c.args.first.items c.in-Call.whole (unwrap_or c.in-Call.standing c.in-Call.whole) h.0 h.1 h.2
+    (finish_out (Done (unwrap_or c.in-Call.standing c.in-Call.whole)) c.from_residual-in_err-value-in-Call.result c.from_residual-in_err-value-in-Call.ensures.1 c.in_err-value-in-Call.ensures)
+
+pub later-returns-in-Some : goal.later-returns-in-Some
+later-returns-in-Some g t c =
+    let h = rw c.in-Call.is at c.in_ok-each.ensures in
+    later_whole c.args.first.head (attributes_in c.args.first.attrs) c.args.first.items c.in-Call.whole (unwrap_or c.in-Call.standing c.in-Call.whole) h.0 h.1 h.2
+    (finish_value (Done (unwrap_or c.in-Call.standing c.in-Call.whole)) (rw c.in-Some.is at c.in_ok-value-in-Call.ensures))
+
+pub later-returns-in-None : goal.later-returns-in-None
+later-returns-in-None g t c =
+    let h = rw c.in-Call.is at c.in_ok-each.ensures in
+    later_whole c.args.first.head (attributes_in c.args.first.attrs) c.args.first.items c.in-Call.whole (unwrap_or c.in-Call.standing c.in-Call.whole) h.0 h.1 h.2
+    (finish_stays c.unwrap_or.ensures (rw c.in-None.is at c.in_ok-value-in-Call.ensures))
+
+pub later-last_steps-requires : goal.later-last_steps-requires
+later-last_steps-requires g t c = search rules
+
+-- last_steps
+pub last_steps-returns-in-Normal : goal.last_steps-returns-in-Normal
+last_steps-returns-in-Normal g t c =
+    let e : c.args.whole.now ≡ normal c.in-Normal.head.value (trees c.in-Normal.items) = search rules in
+    stepped_last (attributes_in c.args.attrs.now) c.in-Normal.head.value c.in-Normal.items _ c.args.whole.now e c.deref.ensures c.call_steps.ensures
+
+pub last_steps-returns-in-Int : goal.last_steps-returns-in-Int
+last_steps-returns-in-Int g t c = let e : c.args.whole.now ≡ integer c.in-Int.field-0 = search rules in rw e stepped_here
+
+pub last_steps-returns-in-Str : goal.last_steps-returns-in-Str
+last_steps-returns-in-Str g t c = let e : c.args.whole.now ≡ string c.in-Str.field-0 = search rules in rw e stepped_here
+
+pub last_steps-returns-in-Symbol : goal.last_steps-returns-in-Symbol
+last_steps-returns-in-Symbol g t c = let e : c.args.whole.now ≡ symbol c.in-Symbol.field-0 = search rules in rw e stepped_here
+
+pub last_steps-call_steps-requires : goal.last_steps-call_steps-requires
+last_steps-call_steps-requires g t c = search rules
+
+-- call_steps
+pub call_steps-returns-in_err-value : goal.call_steps-returns-in_err-value
+call_steps-returns-in_err-value g t c =
+    stepped_err c.from_residual.ensures.1 (call_out (attributes_in c.args.attrs.now) c.args.head.now c.args.items.now c.args.whole.now c.in_err-value.ensures)
+
+pub call_steps-returns-in-Some : goal.call_steps-returns-in-Some
+call_steps-returns-in-Some g t c =
+    call_value (attributes_in c.args.attrs.now) c.args.head.now c.args.items.now c.args.whole.now (rw c.in-Some.is at c.in_ok-value.ensures)
+
+pub call_steps-returns : goal.call_steps-returns
+call_steps-returns g t c =
+    call_on (attributes_in c.args.attrs.now) c.args.head.now c.args.items.now c.args.whole.now (rw c.in_default.is at c.in_ok-value.ensures) c.down_steps.ensures
+
+pub call_steps-up_steps-requires : goal.call_steps-up_steps-requires
+call_steps-up_steps-requires g t c = search rules
+
+pub call_steps-down_steps-requires : goal.call_steps-down_steps-requires
+call_steps-down_steps-requires g t c = let ready = ready_stepped (rw c.in_default.is at c.in_ok-value.ensures) c.requires in search (rules, ready)
+
+-- up_steps
+pub up_steps-returns-then-attrs : goal.up_steps-returns-then-attrs
+up_steps-returns-then-attrs g t c = ups_held (attributes_in c.args.attrs.now) c.args.items.now c.args.whole.now (has_hold_all_complete c.args.attrs.now ∙ c.if-attrs.true)
+
+pub up_steps-loop-item-init : goal.up_steps-loop-item-init
+up_steps-loop-item-init g t c = record { led = λ rest. reached_here; free = c.if-attrs.false; ready = c.requires }
+
+pub up_steps-returns-in_err-rules : goal.up_steps-returns-in_err-rules
+up_steps-returns-in_err-rules g t c =
+    stepped_err c.from_residual.ensures.1
+    (ups_free (attributes_in c.args.attrs.now) c.args.items.now c.args.whole.now (has_hold_all_complete c.args.attrs.now ∙ c.loop-item.invariant.free)
+    (ups_out c.args.items.now c.loop-item.item-index c.item-item.result c.args.whole.now (rw c.as_slice-item-items.ensures at c.loop-item-test.true) (rw c.as_slice-item-items.ensures at c.item-item.is) c.loop-item.invariant.led (rw c.symbol_of-symbol.ensures at (c.in_err-rules.ensures c.args.left).by)))
+
+pub up_steps-returns-in_err-value : goal.up_steps-returns-in_err-value
+up_steps-returns-in_err-value g t c =
+    stepped_err c.from_residual-in_err-value.ensures.1
+    (ups_free (attributes_in c.args.attrs.now) c.args.items.now c.args.whole.now (has_hold_all_complete c.args.attrs.now ∙ c.loop-item.invariant.free)
+    (ups_out c.args.items.now c.loop-item.item-index c.item-item.result c.args.whole.now (rw c.as_slice-item-items.ensures at c.loop-item-test.true) (rw c.as_slice-item-items.ensures at c.item-item.is) c.loop-item.invariant.led
+    (begins_on (rw c.symbol_of-symbol.ensures at (c.in_ok-rules.ensures c.args.left)) c.in_err-value.ensures)))
+
+pub up_steps-returns-in-Some : goal.up_steps-returns-in-Some
+up_steps-returns-in-Some g t c =
+    ups_free (attributes_in c.args.attrs.now) c.args.items.now c.args.whole.now (has_hold_all_complete c.args.attrs.now ∙ c.loop-item.invariant.free)
+    (ups_value c.args.items.now c.loop-item.item-index c.item-item.result c.args.whole.now (rw c.as_slice-item-items.ensures at c.loop-item-test.true) (rw c.as_slice-item-items.ensures at c.item-item.is) c.loop-item.invariant.led
+    (begins_on (rw c.symbol_of-symbol.ensures at (c.in_ok-rules.ensures c.args.left)) (rw c.in-Some.is at c.in_ok-value.ensures)))
+
+pub up_steps-loop-item-preserved : goal.up_steps-loop-item-preserved
+up_steps-loop-item-preserved g t c = record {
+  led = ups_on c.args.items.now c.loop-item.item-index c.item-item.result c.args.whole.now (rw c.as_slice-item-items.ensures at c.loop-item-test.true) (rw c.as_slice-item-items.ensures at c.item-item.is) c.loop-item.invariant.led
+      (begins_on (rw c.symbol_of-symbol.ensures at (c.in_ok-rules.ensures c.args.left)) (rw c.in_default.is at c.in_ok-value.ensures));
+  free = c.loop-item.invariant.free;
+  ready = ready_stepped (rw c.in_default.is at c.in_ok-value.ensures) (ready_begins (c.in_ok-rules.ensures c.args.left) c.loop-item.invariant.ready);
+}
+
+pub up_steps-returns : goal.up_steps-returns
+up_steps-returns g t c =
+    ups_free (attributes_in c.args.attrs.now) c.args.items.now c.args.whole.now (has_hold_all_complete c.args.attrs.now ∙ c.loop-item.invariant.free)
+    (ups_done c.args.items.now c.loop-item.item-index c.args.whole.now (rw c.as_slice-item-items.ensures at c.loop-item-test.false) c.loop-item.invariant.led)
+
+pub up_steps-drive-requires : goal.up_steps-drive-requires
+up_steps-drive-requires g t c = let ready = ready_begins (c.in_ok-rules.ensures c.args.left) c.loop-item.invariant.ready in search (rules, ready)
+
+-- down_steps
+pub down_steps-returns-in_err-rules : goal.down_steps-returns-in_err-rules
+down_steps-returns-in_err-rules g t c =
+    stepped_err c.from_residual.ensures.1 (down_out c.args.head.now c.args.items.now c.args.whole.now (rw c.as_slice.ensures at (c.in_err-rules.ensures c.args.left).by))
+
+pub down_steps-returns-in_err-value : goal.down_steps-returns-in_err-value
+down_steps-returns-in_err-value g t c =
+    stepped_err c.from_residual-in_err-value.ensures.1
+    (down_out c.args.head.now c.args.items.now c.args.whole.now (begins_on (rw c.as_slice.ensures at (c.in_ok-rules.ensures c.args.left)) c.in_err-value.ensures))
+
+pub down_steps-returns-in-Some : goal.down_steps-returns-in-Some
+down_steps-returns-in-Some g t c =
+    down_value c.args.head.now c.args.items.now c.args.whole.now (rw c.as_slice.ensures at (c.in_ok-rules.ensures c.args.left)) (rw c.in-Some.is at c.in_ok-value.ensures)
+
+pub down_steps-returns-in_err-row : goal.down_steps-returns-in_err-row
+down_steps-returns-in_err-row g t c =
+    stepped_err c.from_residual-in_err-row.ensures.1
+    (down_on c.args.head.now c.args.items.now c.args.whole.now (rw c.as_slice.ensures at (c.in_ok-rules.ensures c.args.left)) (rw c.in_default.is at c.in_ok-value.ensures) (c.in_err-row.ensures c.args.left).by)
+
+pub down_steps-returns : goal.down_steps-returns
+down_steps-returns g t c =
+    down_on c.args.head.now c.args.items.now c.args.whole.now (rw c.as_slice.ensures at (c.in_ok-rules.ensures c.args.left)) (rw c.in_default.is at c.in_ok-value.ensures)
+    (begins_on (c.in_ok-row.ensures c.args.left) c.drive-2.ensures)
+
+pub down_steps-head_start-requires : goal.down_steps-head_start-requires
+down_steps-head_start-requires g t c = search rules
+
+pub down_steps-drive-requires : goal.down_steps-drive-requires
+down_steps-drive-requires g t c = let ready = ready_begins (c.in_ok-rules.ensures c.args.left) c.requires in search (rules, ready)
+
+pub down_steps-head_row_start-requires : goal.down_steps-head_row_start-requires
+down_steps-head_row_start-requires g t c = ready_stepped (rw c.in_default.is at c.in_ok-value.ensures) (ready_begins (c.in_ok-rules.ensures c.args.left) c.requires)
+
+pub down_steps-drive-requires-2 : goal.down_steps-drive-requires-2
+down_steps-drive-requires-2 g t c =
+    let ready = ready_begins (c.in_ok-row.ensures c.args.left) (ready_stepped (rw c.in_default.is at c.in_ok-value.ensures) (ready_begins (c.in_ok-rules.ensures c.args.left) c.requires)) in
+    search (rules, ready)
+
+-- drive
+pub drive-returns-in-Given : goal.drive-returns-in-Given
+drive-returns-in-Given g t c = rw c.in-Given.is (driven_given c.in-Given.value)
+
+pub drive-steps-init : goal.drive-steps-init
+drive-steps-init g t c = record { led = λ stay. rw c.in-Machine.is reached_here; ready = c.requires }
+
+pub drive-returns-in_err-next : goal.drive-returns-in_err-next
+drive-returns-in_err-next g t c = stepped_err c.from_residual.ensures.1 (driven_halts c.steps.invariant.led c.in_err-next.ensures.stepped)
+
+pub drive-returns-in_err-value : goal.drive-returns-in_err-value
+drive-returns-in_err-value g t c = stepped_err c.from_residual-in_err-value.ensures.1 (driven_out c.steps.invariant.led c.in_ok-next.ensures.stepped c.in_err-value.ensures)
+
+pub drive-returns-in-Ends : goal.drive-returns-in-Ends
+drive-returns-in-Ends g t c = driven_ends c.in-Ends.value c.steps.invariant.led c.in_ok-next.ensures.stepped (rw c.in-Ends.is at c.in_ok-value.ensures)
+
+pub drive-steps-preserved : goal.drive-steps-preserved
+drive-steps-preserved g t c =
+    let b = rw c.in-Goes.is at c.in_ok-value.ensures in
+    record { led = driven_goes c.steps.invariant.led c.in_ok-next.ensures.stepped b; ready = ready_follows b c.steps.invariant.ready }
+
+pub drive-steps-smaller : goal.drive-steps-smaller
+drive-steps-smaller g t c = let b = rw c.in-Goes.is at c.in_ok-value.ensures in b.fewer _ _ c.in_ok-next.ensures.falls
+
+pub drive-follow-requires : goal.drive-follow-requires
+drive-follow-requires g t c = let ready = c.steps.invariant.ready in search (rules, ready)
+
+-- follow
+pub follow-returns-in_err-count-in-Ask : goal.follow-returns-in_err-count-in-Ask
+follow-returns-in_err-count-in-Ask g t c =
+    rw (c.in-Ask.is, c.in_err-count-in-Ask.ensures.rest) (follows_err c.from_residual.ensures.1 (follows_asked_out (runs_turning_out (Ask c.in-Ask.e) c.in_err-count-in-Ask.ensures.steps)))
+
+pub follow-returns-in_err-value-in-Ask : goal.follow-returns-in_err-value-in-Ask
+follow-returns-in_err-value-in-Ask g t c =
+    rw c.in-Ask.is
+    (follows_err c.from_residual-in_err-value-in-Ask.ensures.1 (follows_asked_out (runs_turning c.in_ok-count-in-Ask.ensures.steps (rw c.in_ok-count-in-Ask.ensures.rest at (runs_ask c.in_err-value-in-Ask.ensures)))))
+
+pub follow-returns-in_ok-value-in-Ask : goal.follow-returns-in_ok-value-in-Ask
+follow-returns-in_ok-value-in-Ask g t c =
+    rw c.in-Ask.is (follows_asked (runs_turning c.in_ok-count-in-Ask.ensures.steps (rw c.in_ok-count-in-Ask.ensures.rest at (runs_ask c.in_ok-value-in-Ask.ensures))))
+
+pub follow-returns-in_err-count-in-Within : goal.follow-returns-in_err-count-in-Within
+follow-returns-in_err-count-in-Within g t c =
+    rw (c.in-Within.is, c.in_err-count-in-Within.ensures.rest)
+    (follows_err c.from_residual-in_err-count-in-Within.ensures.1 (follows_within_out (runs_turning_out (Within (locals_in c.in-Within.locals) c.in-Within.e) c.in_err-count-in-Within.ensures.steps)))
+
+pub follow-returns-in_err-value-in-Within : goal.follow-returns-in_err-value-in-Within
+follow-returns-in_err-value-in-Within g t c =
+    rw c.in-Within.is
+    (follows_err c.from_residual-in_err-value-in-Within.ensures.1 (follows_within_out (runs_turning c.in_ok-count-in-Within.ensures.steps (rw c.in_ok-count-in-Within.ensures.rest at c.in_err-value-in-Within.ensures))))
+
+pub follow-returns-in_ok-value-in-Within : goal.follow-returns-in_ok-value-in-Within
+follow-returns-in_ok-value-in-Within g t c =
+    rw c.in-Within.is (follows_within (runs_turning c.in_ok-count-in-Within.ensures.steps (rw c.in_ok-count-in-Within.ensures.rest at c.in_ok-value-in-Within.ensures)))
+
+pub follow-returns-in_err-count-in-Turn : goal.follow-returns-in_err-count-in-Turn
+follow-returns-in_err-count-in-Turn g t c =
+    rw (c.in-Turn.is, c.in_err-count-in-Turn.ensures.rest) (follows_err c.from_residual-in_err-count-in-Turn.ensures.1 (follows_turn_out c.in_err-count-in-Turn.ensures.steps))
+
+pub follow-returns-in_ok-count-in-Turn : goal.follow-returns-in_ok-count-in-Turn
+follow-returns-in_ok-count-in-Turn g t c = rw (c.in-Turn.is, c.in_ok-count-in-Turn.ensures.rest) (follows_turn c.in_ok-count-in-Turn.ensures.steps)
+
+pub follow-returns-in-Done : goal.follow-returns-in-Done
+follow-returns-in-Done g t c = rw c.in-Done.is follows_done
+
+pub follow-returns-in-Stays : goal.follow-returns-in-Stays
+follow-returns-in-Stays g t c = rw c.in-Stays.is follows_stays
+
+-- value_within
+pub value_within-returns-in_err-saved : goal.value_within-returns-in_err-saved
+value_within-returns-in_err-saved g t c = runs_lost c.from_residual.ensures.1
+
+pub value_within-returns : goal.value_within-returns
+value_within-returns g t c =
+    runs_put_back c.in_ok-saved.ensures.definitions (c.put_back.ensures c.args.defs.now (locals_in c.args.locals.now) c.in_ok-saved.ensures.saved) c.value_of-value.ensures
+
+pub value_within-value_of-value-requires : goal.value_within-value_of-value-requires
+value_within-value_of-value-requires g t c = search rules

@@ -1,48 +1,76 @@
-use Rattle.std.proofs.Common.{◌+◌, ◌*◌, drop}
+use Rattle.std.proofs.Common.{◌≡◌, ◌+◌, ◌*◌, false, drop}
 use Rattle.semantics.specs.Assemble.{ask_items}
+use Rattle.semantics.specs.Pass.{up_rules}
+use Rattle.semantics.specs.Program.{Prog}
 use Rattle.builtin_names.specs.Attributes.{attributes_in}
 use Rattle.builtin_names.specs.Named.{names_in}
-use Rattle.evaluation_steps.specs.Words.{Led}
+use Rattle.evaluation_steps.specs.Words.{Led, Reached}
 use Rattle.evaluation_steps.specs.Passed.{Passed}
-use Rattle.eval_seq.specs.Defined.{defs_in}
 use Rattle.eval_seq.specs.Outward.{Guarded}
-use Rattle.eval_seq.specs.Setup.{setting_of, state_of}
+use Rattle.frame_steps.specs.Setup.{setting_of}
+use Rattle.eval_seq.specs.Setup.{state_of}
+use Rattle.eval_seq.specs.Driven.{driven}
 use Rattle.eval_seq.specs.Sequence.{asking}
+use Rattle.row_frames.specs.Frames.{left, questions}
 use Rattle.eval_seq.proofs.evaluate.+evaluate.Given as goal
 
 abbrev pub decreases-evaluate : goal.decreases-evaluate
-decreases-evaluate g l = 12 * l.left + 0
+decreases-evaluate g l = 14 * l.left + 0
 
 abbrev pub decreases-value_of : goal.decreases-value_of
-decreases-value_of g l = 12 * l.left + 1
+decreases-value_of g l = 14 * l.left + 1
 
 abbrev pub decreases-element : goal.decreases-element
-decreases-element g l = 12 * l.left + 2
+decreases-element g l = 14 * l.left + 2
 
 abbrev pub decreases-elements : goal.decreases-elements
-decreases-elements g l = 12 * l.left + 3
+decreases-elements g l = 14 * l.left + 3
 
 abbrev pub decreases-first_steps : goal.decreases-first_steps
-decreases-first_steps g l = 12 * l.left + 4
+decreases-first_steps g l = 14 * l.left + 4
+
+abbrev pub decreases-value_within : goal.decreases-value_within
+decreases-value_within g l = 14 * l.left + 2
+
+abbrev pub decreases-follow : goal.decreases-follow
+decreases-follow g l = 14 * l.left + 3
+
+abbrev pub decreases-drive : goal.decreases-drive
+decreases-drive g l = 14 * l.left + 4
+
+abbrev pub decreases-up_steps : goal.decreases-up_steps
+decreases-up_steps g l = 14 * l.left + 5
+
+abbrev pub decreases-down_steps : goal.decreases-down_steps
+decreases-down_steps g l = 14 * l.left + 5
+
+abbrev pub decreases-call_steps : goal.decreases-call_steps
+decreases-call_steps g l = 14 * l.left + 6
+
+abbrev pub decreases-last_steps : goal.decreases-last_steps
+decreases-last_steps g l = 14 * l.left + 7
+
+abbrev pub decreases-later : goal.decreases-later
+decreases-later g l = 14 * l.left + 8
 
 abbrev pub decreases-normal : goal.decreases-normal
-decreases-normal g l = 12 * l.left + 5
+decreases-normal g l = 14 * l.left + 9
 
 abbrev pub decreases-pass : goal.decreases-pass
-decreases-pass g l = 12 * l.left + 6
+decreases-pass g l = 14 * l.left + 10
 
 abbrev pub decreases-turn : goal.decreases-turn
-decreases-turn g l = 12 * l.left + 7
+decreases-turn g l = 14 * l.left + 11
 
 abbrev pub decreases-settle_rest : goal.decreases-settle_rest
-decreases-settle_rest g l = 12 * l.left + 8
+decreases-settle_rest g l = 14 * l.left + 12
 
 abbrev pub decreases-settle : goal.decreases-settle
-decreases-settle g l = 12 * l.left + 9
+decreases-settle g l = 14 * l.left + 13
 
 abbrev pub invariant-settle_rest-passes : goal.invariant-settle_rest-passes
 invariant-settle_rest-passes g l = record {
-  passed : Passed (Guarded g.U.Upcall.step g.U.Upcall.ready) (setting_of l.scene) l.left l.fn.changes l.fn.e l.fn.up (state_of (defs_in l.fn.defs) l.fn.going) l.changes l.e (state_of (defs_in l.defs) l.going) l.up;
+  passed : Passed (Guarded g.U.Upcall.step g.U.Upcall.ready) (setting_of l.scene) l.left l.fn.changes l.fn.e l.fn.up (state_of l.fn.defs l.fn.going) l.changes l.e (state_of l.defs l.going) l.up;
   ready : g.U.Upcall.ready l.up;
 }
 
@@ -51,7 +79,25 @@ decreases-settle_rest-passes g l = l.changes
 
 abbrev pub invariant-elements-loop-item : goal.invariant-elements-loop-item
 invariant-elements-loop-item g l = record {
-  led : Led (Guarded g.U.Upcall.step g.U.Upcall.ready) (setting_of l.scene) l.left (ask_items (names_in l.scene.names.now) (attributes_in l.attrs) l.items) l.fn.up (state_of (defs_in l.fn.defs) l.fn.going)
-      (asking (names_in l.scene.names.now) (attributes_in l.attrs) l.held (drop l.item-index l.items) l.done) (state_of (defs_in l.defs) l.going) l.up;
+  led : Led (Guarded g.U.Upcall.step g.U.Upcall.ready) (setting_of l.scene) l.left (ask_items (names_in l.scene.names.now) (attributes_in l.attrs) l.items) l.fn.up (state_of l.fn.defs l.fn.going)
+      (asking (names_in l.scene.names.now) (attributes_in l.attrs) l.held (drop l.item-index l.items) l.done) (state_of l.defs l.going) l.up;
   ready : g.U.Upcall.ready l.up;
 }
+
+abbrev pub invariant-up_steps-loop-item : goal.invariant-up_steps-loop-item
+invariant-up_steps-loop-item g l = record {
+  led : (rest : Prog) → Reached (Guarded g.U.Upcall.step g.U.Upcall.ready) (setting_of l.scene) l.left (up_rules (names_in l.scene.names.now) l.items l.whole rest) l.fn.up (state_of l.fn.defs l.fn.going)
+      (up_rules (names_in l.scene.names.now) (drop l.item-index l.items) l.whole rest) (state_of l.defs l.going) l.up;
+  free : l.attrs.hold_all_complete ≡ false;
+  ready : g.U.Upcall.ready l.up;
+}
+
+abbrev pub invariant-drive-steps : goal.invariant-drive-steps
+invariant-drive-steps g l = record {
+  led : (stay : Prog) → Reached (Guarded g.U.Upcall.step g.U.Upcall.ready) (setting_of l.scene) l.left (driven (names_in l.scene.names.now) l.fn.start stay) l.fn.up (state_of l.fn.defs l.fn.going)
+      (left (names_in l.scene.names.now) l.frame stay l.answer) (state_of l.defs l.going) l.up;
+  ready : g.U.Upcall.ready l.up;
+}
+
+abbrev pub decreases-drive-steps : goal.decreases-drive-steps
+decreases-drive-steps g l = questions (names_in l.scene.names.now) l.frame l.answer

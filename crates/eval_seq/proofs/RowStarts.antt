@@ -1,0 +1,90 @@
+-- How rows begin.
+use Rattle.std.proofs.Common.{◌≡◌, ◌∙◌, List, Bool, true, false, ◌||◌, Option, Some, None, Result, Ok, Err, inl, inr, refl, sym, ap}
+use Rattle.std.specs.Result.{IsErrAnd}
+use Rattle.expr_tree.specs.Tree.{Tree}
+use Rattle.expr_tree.specs.declared.limits.Stop.{Stop}
+use Rattle.semantics.specs.declared.builtin.Builtin.{Builtin}
+use Rattle.semantics.specs.Program.{Prog, Done}
+use Rattle.semantics.specs.Table.{row, worked, as_program}
+use Rattle.semantics.specs.Worked.{Worked, Stays, Gives, TooWide}
+use Rattle.semantics.specs.Play.{Setting}
+use Rattle.builtin_names.specs.Results.{IsFaultOf, Works}
+use Rattle.builtin_names.specs.declared.fault.Fault.{Fault}
+use Rattle.builtin_names.specs.declared.fault.Fault.TheVariants as fa
+use Rattle.evaluation_steps.specs.declared.Halt.{Halt}
+use Rattle.evaluation_steps.specs.Stopping.{HaltsFor}
+use Rattle.frame_steps.specs.Steps.{Starts}
+use Rattle.element_rows.specs.Rows.{is_kept_here}
+use Rattle.row_frames.specs.Frames.{has_frame, left}
+use Rattle.row_frames.specs.declared.frame.Frame.{Frame}
+use Rattle.eval_seq.specs.declared.ending.Ending.{Ending}
+use Rattle.eval_seq.specs.declared.ending.Missing.{Missing}
+use Rattle.eval_seq.specs.declared.machine.Start.{Start}
+use Rattle.eval_seq.specs.Built.{is_plain}
+use Rattle.eval_seq.specs.Driven.{Opens}
+use Rattle.eval_seq.proofs.PlainRows.{element_works, plain_stays}
+
+module _ {set : Setting} where
+  pub opens_is : {p q : Prog → Prog} {r : Result Start Ending} → ((rest : Prog) → p rest ≡ q rest) → Opens set q r → Opens set p r
+  opens_is {r = Ok start} e a = record { by = λ rest. e rest ∙ a.by rest }
+  opens_is {r = Err (Ending.Halt (Halt.Stopped c))} e a =
+      record { by = elim a.by [ inl f ↦ inl (λ rest. e rest ∙ f rest) | inr f ↦ inr (f.0, λ rest. e rest ∙ f.1 rest, f.2) ] }
+  opens_is {r = Err (Ending.Halt Halt.Quit)} e a = absurd a.by
+  opens_is {r = Err (Ending.Halt Halt.Closed)} e a = absurd a.by
+  opens_is {r = Err (Ending.Halt Halt.NoMemory)} e a = record { by = tt }
+  opens_is {r = Err (Ending.Unbuilt (Missing.Row b))} e a = record { by = (a.by.0, a.by.1, λ rest. e rest ∙ a.by.2 rest) }
+
+  pub opens_lost : {p : Prog → Prog} {r : Result Start Ending} → IsErrAnd r (λ y. y ≡ Ending.Halt Halt.NoMemory) → Opens set p r
+  opens_lost {r = Ok start} i = absurd i
+  opens_lost {r = Err y} i = rw i (record { by = tt })
+
+  -- ---- rows that are functions of their elements
+
+  pub opens_worked : (w : Worked) {o : Option Tree} → Works w (Ok o) → Opens set (λ rest. as_program rest w) (Ok (Start.Given o))
+  opens_worked Stays {o = None} a = record { by = λ rest. refl }
+  opens_worked Stays {o = Some e} a = absurd a.by
+  opens_worked (Gives t) {o = None} a = absurd a.by
+  opens_worked (Gives t) {o = Some e} a = record { by = λ rest. ap Done (sym a.by) }
+  opens_worked TooWide a = absurd a.by
+
+  halted_large : (t : Tree) (h : Halt) → HaltsFor set.limits t h → Opens set (λ rest. Done t) (Err (Ending.Halt h))
+  halted_large t (Halt.Stopped c) a = record { by = inr (t, λ rest. refl, a.by) }
+  halted_large t Halt.Quit a = absurd a.by
+  halted_large t Halt.Closed a = absurd a.by
+  halted_large t Halt.NoMemory a = record { by = tt }
+
+  pub opens_fault : (w : Worked) (f : Fault) {h : Halt} → Works w (Err f) → ((t : Tree) → IsFaultOf t f → HaltsFor set.limits t h) → (f ≡ fa.Range → h ≡ Halt.Stopped Stop.Range) → (f ≡ fa.NoMemory → h ≡ Halt.NoMemory) →
+      Opens set (λ rest. as_program rest w) (Err (Ending.Halt h))
+  opens_fault Stays fa.Range a large range memory = absurd a.by
+  opens_fault Stays fa.TooLarge a large range memory = absurd a.by
+  opens_fault Stays (fa.TooDeep nodes) a large range memory = absurd a.by
+  opens_fault Stays fa.NoMemory a large range memory = rw (memory refl) (record { by = tt })
+  opens_fault (Gives t) f {h = h} a large range memory = halted_large t h (large t a.by)
+  opens_fault TooWide fa.Range a large range memory = rw (range refl) (record { by = inl (λ rest. refl) })
+  opens_fault TooWide fa.TooLarge a large range memory = absurd a.by
+  opens_fault TooWide (fa.TooDeep nodes) a large range memory = absurd a.by
+  opens_fault TooWide fa.NoMemory a large range memory = rw (memory refl) (record { by = tt })
+
+  -- ---- the rows of the table
+
+  pub row_plain : (b : Builtin) (items : List Tree) → is_plain b ≡ true → Opens set (λ rest. row set.names b rest items) (Ok (Start.Given None))
+  row_plain b items e = record { by = λ rest. plain_stays set.names b rest items e }
+
+  pub row_made : (b : Builtin) (items : List Tree) {r : Result Start Ending} → is_kept_here b ≡ true → Opens set (λ rest. as_program rest (worked set.names b items)) r → Opens set (λ rest. row set.names b rest items) r
+  row_made b items e a = opens_is (λ rest. element_works set.names b rest items e) a
+
+  pub row_machine : {E : Type 0} (b : Builtin) (items : List Tree) {frame : Frame} → Starts {E = E} (left set.names) (λ rest. row set.names b rest items) (Ok (Some frame)) →
+      Opens set (λ rest. row set.names b rest items) (Ok (Start.Machine frame))
+  row_machine b items a = record { by = a.by }
+
+  pub row_stays : {E : Type 0} (b : Builtin) (items : List Tree) → Starts {E = E} (left set.names) (λ rest. row set.names b rest items) (Ok None) → Opens set (λ rest. row set.names b rest items) (Ok (Start.Given None))
+  row_stays b items a = record { by = a.by }
+
+  pub row_unbuilt : (b : Builtin) (items : List Tree) → is_plain b ≡ false → is_kept_here b ≡ false → has_frame b ≡ false → Opens set (λ rest. row set.names b rest items) (Err (Ending.Unbuilt (Missing.Row b)))
+  row_unbuilt b items e f g = record { by = (is_none (is_plain b) (is_kept_here b) (has_frame b) e f g, items, λ rest. refl) }
+    where
+      is_none : (x y z : Bool) → x ≡ false → y ≡ false → z ≡ false → (x || (y || z)) ≡ false
+      is_none false false false e f g = refl
+      is_none true y z e f g = absurd (Prim.cc e)
+      is_none false true z e f g = absurd (Prim.cc f)
+      is_none false false true e f g = absurd (Prim.cc g)

@@ -1,0 +1,24 @@
+use Rattle.std.proofs.Common.{rules, ◌≡◌, refl}
+use Rattle.expr_tree.specs.Tree.{integer, string, symbol, normal, trees}
+use Rattle.eval_seq.proofs.Driving.{begins_none}
+use Rattle.eval_seq.proofs.steps.head_row_start.Goals as goal
+
+pub returns-in-Symbol : goal.returns-in-Symbol
+returns-in-Symbol g c =
+    λ n. let e : c.args.head.now ≡ symbol c.in-Symbol.symbol = search rules in
+    rw e (c.built_in.ensures n)
+
+pub returns-in-Normal : goal.returns-in-Normal
+returns-in-Normal g c =
+    λ n. let e : c.args.head.now ≡ normal c.in-Normal.field-0.value (trees c.in-Normal.field-1) = search rules in
+    rw e (begins_none (λ rest. refl))
+
+pub returns-in-Int : goal.returns-in-Int
+returns-in-Int g c =
+    λ n. let e : c.args.head.now ≡ integer c.in-Int.field-0 = search rules in
+    rw e (begins_none (λ rest. refl))
+
+pub returns-in-Str : goal.returns-in-Str
+returns-in-Str g c =
+    λ n. let e : c.args.head.now ≡ string c.in-Str.field-0 = search rules in
+    rw e (begins_none (λ rest. refl))

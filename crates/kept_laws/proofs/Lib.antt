@@ -1,0 +1,2 @@
+mod Kin
+pub mod Stay
