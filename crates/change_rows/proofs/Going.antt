@@ -1,18 +1,20 @@
 -- Steps, from equations of runs.
-use Rattle.std.proofs.Common.{◌≡◌, ◌∙◌, inl, inr, refl, sym, ap, ℕ, Bool, true, false, List, Option, Some, None, Result, Ok, Err}
+use Rattle.std.proofs.Common.{◌≡◌, ◌∙◌, inl, inr, refl, sym, ap, ℕ, Bool, true, false, List, Option, Some, None, Result, Ok, Err, true≢false}
+use Rattle.std.specs.Prelude.{◌||◌}
 use Rattle.expr_tree.specs.declared.sym.Sym.{Sym}
 use Rattle.expr_tree.specs.Tree.{Tree}
 use Rattle.semantics.specs.declared.builtin.Builtin.{Builtin}
 use Rattle.semantics.specs.Names.{Names, name}
 use Rattle.semantics.specs.Control.{failed, null}
 use Rattle.semantics.specs.Definitions.{Definition, Definitions}
-use Rattle.semantics.specs.Changes.{is_protected, write}
-use Rattle.semantics.specs.Program.{Prog, Done, Ask, Put}
+use Rattle.semantics.specs.Changes.{unless_item, is_protected, write}
+use Rattle.semantics.specs.Program.{Prog, Done, Ask, Put, Mode, Cell, Item, Service}
 use Rattle.semantics.specs.Play.{Setting, Evaluator, Over, Value, run, written}
 use Rattle.evaluation_steps.specs.declared.Halt.{Halt}
 use Rattle.evaluation_steps.specs.Stopping.{HaltsFor}
 use Rattle.frame_steps.specs.declared.moves.Move.{Move}
 use Rattle.frame_steps.specs.Steps.{state_at, EndsBy, Stepped, Starts}
+use Rattle.change_rows.specs.Effects.{is_refused}
 
 pub record Leads (set : Setting) (p : Prog) (d : Definitions) (used : Bool) (q : Prog) (d' : Definitions) (used' : Bool) : Type 0 where
   pub by : (ev : Evaluator) (steps : ℕ) (o : Option (List Sym)) → run set ev p (state_at d used steps o) ≡ run set ev q (state_at d' used' steps o)
@@ -50,6 +52,28 @@ same_definitions {set = set} {p = p} e f = record { by = λ ev steps o. λ i. ru
 
 pub onward : {set : Setting} {p q r : Prog} {d d1 d' : Definitions} {used used1 used' : Bool} → Leads set p d used q d1 used1 → Leads set q d1 used1 r d' used' → Leads set p d used r d' used'
 onward e f = record { by = λ ev steps o. e.by ev steps o ∙ f.by ev steps o }
+
+-- ---- what fails in an item
+
+pub passes_item : (set : Setting) (b : Bool) (p : Prog) {d : Definitions} {used : Bool} → is_refused set.mode b ≡ false → Leads set (unless_item set.names b p) d used p d (b || used)
+passes_item set false p h = record { by = λ ev steps o. refl }
+passes_item set true p {d = d} h = record { by = λ ev steps o. go ev steps o set.mode h }
+  where
+    go : (ev : Evaluator) (steps : ℕ) (o : Option (List Sym)) (m : Mode) → is_refused m true ≡ false
+        → run set ev (elim m as (λ _. Prog) [ Item ↦ failed set.names | _ ↦ p ]) (state_at d true steps o) ≡ run set ev p (state_at d true steps o)
+    go ev steps o Item h = absurd (true≢false h)
+    go ev steps o Cell h = refl
+    go ev steps o Service h = refl
+
+pub fails_item : (set : Setting) (b : Bool) (p : Prog) {d : Definitions} {used : Bool} → is_refused set.mode b ≡ true → Leads set (unless_item set.names b p) d used (failed set.names) d (b || used)
+fails_item set false p h = absurd (true≢false (sym h))
+fails_item set true p {d = d} h = record { by = λ ev steps o. go ev steps o set.mode h }
+  where
+    go : (ev : Evaluator) (steps : ℕ) (o : Option (List Sym)) (m : Mode) → is_refused m true ≡ true
+        → run set ev (elim m as (λ _. Prog) [ Item ↦ failed set.names | _ ↦ p ]) (state_at d true steps o) ≡ run set ev (failed set.names) (state_at d true steps o)
+    go ev steps o Item h = refl
+    go ev steps o Cell h = absurd (true≢false (sym h))
+    go ev steps o Service h = absurd (true≢false (sym h))
 
 -- ---- what is Protected
 

@@ -1,3 +1,4 @@
 mod Going
 mod Flags
 mod Guarding
+mod Renewals

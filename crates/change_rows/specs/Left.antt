@@ -1,14 +1,24 @@
 -- The program that is left of a row, and the questions that are left.
-use Rattle.std.specs.Prelude.{ℕ, Option}
+use Rattle.std.specs.Prelude.{ℕ, Option, Some, None}
 use Rattle.expr_tree.specs.Tree.{Tree}
 use Rattle.semantics.specs.Names.{Names}
 use Rattle.semantics.specs.Program.{Prog}
 use Rattle.change_rows.specs.declared.change.Change.{Change}
+use Rattle.change_rows.specs.declared.renewal.Renewal.{Renewal}
 use Rattle.change_rows.specs.Single.{done_to}
+use Rattle.change_rows.specs.Renewing.{left_renewal}
 
 abbrev pub left : Names → Change → Prog → Option Tree → Prog
 left names (Change.Single f) stay answer = done_to names f.symbol f.deed
+left names (Change.Renewal f) stay answer = left_renewal names f answer
 
--- these rows ask nothing
+abbrev pub asked_once : Renewal → ℕ
+asked_once f = elim f.before [ None ↦ 1 | Some old ↦ 0 ]
+
+-- no fewer than the questions that are left
+abbrev pub asked_by : Change → ℕ
+asked_by (Change.Single f) = 0
+asked_by (Change.Renewal f) = asked_once f
+
 abbrev pub questions : Names → Change → Option Tree → ℕ
-questions names f answer = 0
+questions names f answer = asked_by f

@@ -9,6 +9,7 @@ ghost use Rattle.change_rows.specs.Rows.{is_change};
 ghost use Rattle.change_rows.specs.Left.{left, questions};
 ghost use Rattle.change_rows.specs.Results.{done_with};
 
+use crate::renewal::{Renewal, of_integer, of_negated, of_operand};
 use crate::single::{Deed, Single, of_attributes, of_symbol};
 use evaluation_steps::Halt;
 use expr_tree::Expr;
@@ -22,6 +23,7 @@ use std::alloc::{AllocError, Global};
 #[derive(Drop)]
 pub enum Change {
     Single(Single),
+    Renewal(Renewal),
 }
 
 impl Change {
@@ -38,6 +40,15 @@ impl Change {
         ensures starts { IfSome result (λ r. Starts (left (names_in names.now)) (λ stay. t.row (names_in names.now) row stay items.now) r) }
     {
         match row {
+            Builtin::Increment => Some(of_integer(names, 1, true, items)),
+            Builtin::Decrement => Some(of_integer(names, -1, true, items)),
+            Builtin::PreIncrement => Some(of_integer(names, 1, false, items)),
+            Builtin::PreDecrement => Some(of_integer(names, -1, false, items)),
+            Builtin::AddTo => Some(of_operand(alloc, names, Builtin::Plus, items)),
+            Builtin::SubtractFrom => Some(of_negated(alloc, names, items)),
+            Builtin::TimesBy => Some(of_operand(alloc, names, Builtin::Times, items)),
+            Builtin::AppendTo => Some(of_operand(alloc, names, Builtin::Append, items)),
+            Builtin::PrependTo => Some(of_operand(alloc, names, Builtin::Prepend, items)),
             Builtin::Clear => Some(of_symbol(names, Deed::Clear, items)),
             Builtin::ClearAll => Some(of_symbol(names, Deed::ClearAll, items)),
             Builtin::SetAttributes => Some(of_attributes(alloc, names, true, items)),
@@ -55,13 +66,14 @@ impl Change {
         scene: &Scene,
         defs: &mut Defs,
         used: &mut bool,
-        _answer: Option<Expr>,
+        answer: Option<Expr>,
     ) -> Result<Move, Halt>
-        ensures stepped { (stay : Prog) → Stepped (setting_of scene.now) (left (names_in scene.now.names.now) self.old stay _answer) stay defs.old used.old result (left (names_in scene.now.names.now) self.new stay) defs.new used.new }
-        ensures falls { Falls result (questions (names_in scene.now.names.now) self.old _answer) (questions (names_in scene.now.names.now) self.new) }
+        ensures stepped { (stay : Prog) → Stepped (setting_of scene.now) (left (names_in scene.now.names.now) self.old stay answer) stay defs.old used.old result (left (names_in scene.now.names.now) self.new stay) defs.new used.new }
+        ensures falls { Falls result (questions (names_in scene.now.names.now) self.old answer) (questions (names_in scene.now.names.now) self.new) }
     {
         match self {
             Change::Single(row) => done_with(row.step(scene, defs, used)),
+            Change::Renewal(row) => row.step(scene, defs, used, answer),
         }
     }
 }

@@ -2,9 +2,11 @@
 ghost use Rattle.std.specs.Prelude.{◌≡◌, ◌||◌, is_some};
 ghost use Rattle.semantics.specs.Play.{seen};
 ghost use Rattle.builtin_names.specs.Named.{names_in};
+ghost use Rattle.frame_steps.specs.Setup.{mode_of};
+ghost use Rattle.change_rows.specs.Effects.{is_refused};
 
 use expr_tree::Sym;
-use frame_steps::Scene;
+use frame_steps::{Mode, Scene};
 use kernel_defs::Defs;
 
 /// Whether a symbol is shared.
@@ -21,5 +23,20 @@ pub(crate) fn note_use(used: &mut bool, shared: bool)
 {
     if shared {
         *used = true;
+    }
+}
+
+/// Whether a change of a shared symbol fails here, where it is no access.
+pub(crate) fn is_refused(scene: &Scene, used: &mut bool, shared: bool) -> bool
+    ensures refused { result ≡ is_refused (mode_of scene.now.mode) shared }
+    ensures used { used.new ≡ (shared || used.old) }
+{
+    note_use(used, shared);
+    if !shared {
+        return false;
+    }
+    match scene.mode {
+        Mode::Item => true,
+        Mode::Cell | Mode::Service => false,
     }
 }

@@ -4,8 +4,10 @@
 mod attributes;
 mod change;
 mod effects;
+mod renewal;
 mod shapes;
 mod single;
 
 pub use change::Change;
+pub use renewal::{Operand, Renewal};
 pub use single::{Deed, Single};

@@ -1,0 +1,4 @@
+use Rattle.change_rows.proofs.change.Change.step.Goals as goal
+
+pub returns-in-Renewal-clause-stepped : goal.returns-in-Renewal-clause-stepped
+returns-in-Renewal-clause-stepped c = λ stay. rw c.in-Renewal.is (c.step-in-Renewal.ensures.stepped stay)
