@@ -1,0 +1,6 @@
+mod Rows
+mod Running
+mod Plain
+mod Going
+mod Starting
+mod Walking

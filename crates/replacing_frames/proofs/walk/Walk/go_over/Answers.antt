@@ -1,0 +1,17 @@
+use Rattle.rule_frames.specs.Reading.{same}
+use Rattle.rule_frames.proofs.Shown.{shows_on}
+use Rattle.replacing_frames.proofs.Going.{goes_after}
+use Rattle.replacing_frames.proofs.Walking.{goes_end, goes_move, goes_next, shows_item}
+use Rattle.replacing_frames.proofs.walk.Walk.go_over.Goals as goal
+
+pub loop-subject-init : goal.loop-subject-init
+loop-subject-init c = same
+
+pub returns-in-Ok-Some : goal.returns-in-Ok-Some
+returns-in-Ok-Some c = goes_after (shows_item c.loop-subject.self.rules c.loop-subject.self.tally c.in-Some.subject c.pop.new.self c.loop-subject.invariant c.in-Some.ensures) (goes_move (rw c.in-Ok-Some.field-0-is at c.in-Ok-Some.ensures.goes))
+
+pub loop-subject-preserved : goal.loop-subject-preserved
+loop-subject-preserved c = shows_on (shows_item c.loop-subject.self.rules c.loop-subject.self.tally c.in-Some.subject c.pop.new.self c.loop-subject.invariant c.in-Some.ensures) (goes_next (rw c.in-Ok-None.field-0-is at c.in-Ok-None.ensures.goes))
+
+pub returns-in-Err : goal.returns-in-Err
+returns-in-Err c = goes_after (shows_item c.loop-subject.self.rules c.loop-subject.self.tally c.in-Some.subject c.pop.new.self c.loop-subject.invariant c.in-Some.ensures) (goes_end c.in-Err.ensures.goes)

@@ -1,0 +1,11 @@
+//! The rows that ask whether a pattern matches, as machines: a machine asks for the values of guards, until it has the result of its row.
+#![tactic(auto)]
+
+mod replacing;
+mod rule_sets;
+mod tally;
+mod walk;
+
+pub use replacing::{Replacing, start};
+pub use tally::Tally;
+pub use walk::Walk;

@@ -1,0 +1,111 @@
+//! Rules tried on expressions in turn.
+ghost use Rattle.std.specs.Prelude.{◌≡◌};
+ghost use Rattle.builtin_names.specs.Named.{names_in};
+ghost use Rattle.rule_frames.specs.Trials as trials;
+ghost use Rattle.rule_frames.specs.Rules.{rules_left};
+ghost use Rattle.replacing_frames.specs.Moving.{Goes, GoesOn};
+ghost use Rattle.replacing_frames.specs.Walks.{after, left_walk, rest_of_walk};
+
+use crate::tally::Tally;
+use evaluation_steps::Halt;
+use expr_tree::Expr;
+use frame_steps::{DefAttrs, Move, Scene};
+use frames_control::Stack;
+use item_list::Items;
+use kernel_defs::Defs;
+use rule_frames::{Attempt, Try};
+use rule_store::Rule;
+
+/// Rules, the expressions that are left, the trial of the one before them, and what is known of those before.
+#[derive(Drop)]
+pub struct Walk {
+    pub(crate) rules: Items<Rule>,
+    pub(crate) tally: Tally,
+    pub(crate) rest: Stack,
+    pub(crate) present: Option<Attempt>,
+}
+
+impl Walk {
+    /// Goes on with a trial.
+    fn pursue(
+        &mut self,
+        scene: &Scene,
+        defs: &Defs,
+        mut present: Attempt,
+        answer: Option<Expr>,
+    ) -> Result<Option<Move>, Halt>
+        ensures goes { GoesOn (names_in scene.now.names.now) defs.now scene.now.limits (trials.left (names_in scene.now.names.now) present answer (after (names_in scene.now.names.now) self.old.rules self.old.tally self.old.rest)) result (left_walk (names_in scene.now.names.now) self.new) (rest_of_walk (names_in scene.now.names.now) self.new) }
+        ensures rest { self.new.rest ≡ self.old.rest }
+    {
+        let attrs = DefAttrs {
+            defs,
+            names: scene.names,
+        };
+        match present.step(scene.alloc, scene.names, &scene.limits, &attrs, answer) {
+            Ok(Try::Guard(question, turn)) => {
+                self.present = Some(present);
+                Ok(Some(Move::Ask(question, turn)))
+            }
+            Ok(Try::Found(_, _)) => match self.tally.take(scene.names) {
+                Ok(Some(result)) => Ok(Some(Move::Done(result))),
+                Ok(None) => Ok(None),
+                Err(_) => Err(Halt::NoMemory),
+            },
+            Ok(Try::Fails) => Ok(None),
+            Err(halt) => Err(halt),
+        }
+    }
+
+    /// Begins with an expression that was taken off.
+    fn begin(&mut self, scene: &Scene, defs: &Defs, subject: Expr) -> Result<Option<Move>, Halt>
+        ensures goes { GoesOn (names_in scene.now.names.now) defs.now scene.now.limits (rules_left (names_in scene.now.names.now) self.old.rules subject (after (names_in scene.now.names.now) self.old.rules self.old.tally self.old.rest)) result (left_walk (names_in scene.now.names.now) self.new) (rest_of_walk (names_in scene.now.names.now) self.new) }
+        ensures rest { self.new.rest ≡ self.old.rest }
+    {
+        let attempt = Attempt::start(scene.alloc, self.rules.as_slice(), &subject)?;
+        self.pursue(scene, defs, attempt, None)
+    }
+
+    /// Goes on with the trial, if there is one.
+    fn go_on(
+        &mut self,
+        scene: &Scene,
+        defs: &Defs,
+        answer: Option<Expr>,
+    ) -> Result<Option<Move>, Halt>
+        ensures { GoesOn (names_in scene.now.names.now) defs.now scene.now.limits (left_walk (names_in scene.now.names.now) self.old answer) result (left_walk (names_in scene.now.names.now) self.new) (rest_of_walk (names_in scene.now.names.now) self.new) }
+    {
+        match self.present.take() {
+            Some(present) => self.pursue(scene, defs, present, answer),
+            None => Ok(None),
+        }
+    }
+
+    /// Goes on with the expressions that are left.
+    fn go_over(&mut self, scene: &Scene, defs: &Defs) -> Result<Move, Halt>
+        ensures { Goes (names_in scene.now.names.now) defs.now scene.now.limits (rest_of_walk (names_in scene.now.names.now) self.old) result (left_walk (names_in scene.now.names.now) self.new) }
+    {
+        while let Some(subject) = self.rest.pop() {
+            match self.begin(scene, defs, subject) {
+                Ok(Some(next)) => return Ok(next),
+                Ok(None) => {}
+                Err(halt) => return Err(halt),
+            }
+        }
+        Ok(Move::Done(self.tally.finish(scene.names)))
+    }
+
+    pub(crate) fn step(
+        &mut self,
+        scene: &Scene,
+        defs: &Defs,
+        answer: Option<Expr>,
+    ) -> Result<Move, Halt>
+        ensures { Goes (names_in scene.now.names.now) defs.now scene.now.limits (left_walk (names_in scene.now.names.now) self.old answer) result (left_walk (names_in scene.now.names.now) self.new) }
+    {
+        match self.go_on(scene, defs, answer) {
+            Ok(Some(next)) => Ok(next),
+            Ok(None) => self.go_over(scene, defs),
+            Err(halt) => Err(halt),
+        }
+    }
+}
