@@ -13,6 +13,8 @@ use Rattle.rule_frames.specs.Questions as rules
 use Rattle.change_rows.specs.Rows.{is_change}
 use Rattle.change_rows.specs.Left as change
 use Rattle.iterator_frames.specs.Rows.{is_iteration}
+use Rattle.replacing_frames.specs.Left.{is_replacing}
+use Rattle.replacing_frames.specs.Left as replacing
 use Rattle.iterator_frames.specs.Left as iteration
 use Rattle.row_frames.specs.Asking.{asks}
 use Rattle.row_frames.specs.Rows.{left_module, left_block, left_rules}
@@ -37,7 +39,7 @@ has_form Builtin.With = true
 has_form _ = false
 
 abbrev pub has_frame : Builtin → Bool
-has_frame row = has_form row || (is_change row || is_iteration row)
+has_frame row = has_form row || (is_change row || (is_iteration row || is_replacing row))
 
 abbrev pub left : Names → Frame → Prog → Option Tree → Prog
 left names (Frame.Control f) stay answer = control.left names f answer
@@ -47,6 +49,7 @@ left names (Frame.With f) stay answer = left_with names f answer
 left names (Frame.Rules a) stay answer = left_rules names a stay answer
 left names (Frame.Iteration f) stay answer = iteration.left names f stay answer
 left names (Frame.Change f) stay answer = change.left names f stay answer
+left names (Frame.Replacing f) stay answer = replacing.left names f stay answer
 
 abbrev pub questions : Names → Frame → Option Tree → ℕ
 questions names (Frame.Control f) answer = control.questions f
@@ -56,3 +59,4 @@ questions names (Frame.With f) answer = asks (left_with names f answer)
 questions names (Frame.Rules a) answer = rules.questions names a answer
 questions names (Frame.Iteration f) answer = iteration.questions f
 questions names (Frame.Change f) answer = change.questions names f answer
+questions names (Frame.Replacing f) answer = replacing.questions names f answer

@@ -12,7 +12,7 @@ ghost use Rattle.row_frames.specs.Frames.{has_form, has_frame, left, questions};
 use crate::block_row::BlockRow;
 use crate::control_row::{start_control, step_control};
 use crate::module_row::ModuleRow;
-use crate::other_rows::{changing, iterating};
+use crate::other_rows::{changing, iterating, replacing};
 use crate::rule_trial::step_rules;
 use crate::with_row::{start_with, step_with};
 use change_rows::Change;
@@ -24,6 +24,7 @@ use frames_scope::With;
 use iterator_frames::Iteration;
 use kernel_defs::Defs;
 use name_table::Names;
+use replacing_frames::Replacing;
 use rule_frames::Attempt;
 use rule_store::Rule;
 use semantics::Builtin;
@@ -39,6 +40,7 @@ pub enum Frame {
     Rules(Attempt),
     Iteration(Iteration),
     Change(Change),
+    Replacing(Replacing),
 }
 
 /// The machine of a control form or of a scoping form.
@@ -92,8 +94,11 @@ impl Frame {
         if let Some(started) = Change::start(alloc, names, row, items) {
             return Some(changing(started));
         }
-        match iterator_frames::start(alloc, names, row, items) {
-            Some(started) => Some(iterating(started)),
+        if let Some(started) = iterator_frames::start(alloc, names, row, items) {
+            return Some(iterating(started));
+        }
+        match replacing_frames::start(alloc, names, row, items) {
+            Some(started) => Some(replacing(started)),
             None => None,
         }
     }
@@ -124,6 +129,7 @@ impl Frame {
             Frame::Rules(attempt) => step_rules(attempt, scene, defs, answer),
             Frame::Iteration(form) => form.step(scene, defs, used, answer),
             Frame::Change(row) => row.step(scene, defs, used, answer),
+            Frame::Replacing(row) => row.step(scene, defs, used, answer),
         }
     }
 }

@@ -4,11 +4,13 @@ ghost use Rattle.semantics.specs.Program.{Prog};
 ghost use Rattle.frame_steps.specs.Steps.{Starts};
 ghost use Rattle.change_rows.specs.Left as change;
 ghost use Rattle.iterator_frames.specs.Left as iteration;
+ghost use Rattle.replacing_frames.specs.Left as replacing;
 ghost use Rattle.row_frames.specs.Frames as f;
 
 use crate::frame::Frame;
 use change_rows::Change;
 use iterator_frames::Iteration;
+use replacing_frames::Replacing;
 use std::alloc::AllocError;
 
 /// A form with an iterator.
@@ -32,6 +34,19 @@ pub(crate) fn changing(
 {
     match started {
         Ok(Some(row)) => Ok(Some(Frame::Change(row))),
+        Ok(None) => Ok(None),
+        Err(error) => Err(error),
+    }
+}
+
+/// A row that asks whether a pattern matches.
+pub(crate) fn replacing(
+    started: Result<Option<Replacing>, AllocError>,
+) -> Result<Option<Frame>, AllocError>
+    ensures { (names : n.Names) (p : Prog → Prog) → Starts (replacing.left names) p started → Starts (f.left names) p result }
+{
+    match started {
+        Ok(Some(row)) => Ok(Some(Frame::Replacing(row))),
         Ok(None) => Ok(None),
         Err(error) => Err(error),
     }

@@ -36,3 +36,8 @@ pub returns-in-Change-clause-stepped : goal.returns-in-Change-clause-stepped
 returns-in-Change-clause-stepped c = λ stay.
     let is : c.args.self.now ≡ Frame.Change c.in-Change.row = cc in
     rw is (c.step-in-Change.ensures.stepped stay)
+
+pub returns-in-Replacing-clause-stepped : goal.returns-in-Replacing-clause-stepped
+returns-in-Replacing-clause-stepped c = λ stay.
+    let is : c.args.self.now ≡ Frame.Replacing c.in-Replacing.row = cc in
+    rw is (c.step-in-Replacing.ensures.stepped stay)
