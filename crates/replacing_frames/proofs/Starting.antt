@@ -11,9 +11,10 @@ use Rattle.expr_tree.proofs.Trees.{elements-trees}
 use Rattle.semantics.specs.Names.{Names, truth}
 use Rattle.semantics.specs.Rule.{Rule}
 use Rattle.semantics.specs.Program.{Prog, Done}
-use Rattle.semantics.specs.Replace.{asks, match_q, member_q, count_row}
+use Rattle.semantics.specs.Replace.{asks, match_q, member_q, count_row, free_q}
+use Rattle.replacing_frames.specs.Parts.{parts}
 use Rattle.replacing_frames.specs.Walks.{first_of, counted}
-use Rattle.replacing_frames.proofs.Rows.{members, counts}
+use Rattle.replacing_frames.proofs.Rows.{members, counts, frees}
 
 abbrev Row : Type 0
 Row = Prog → List Tree → Prog
@@ -66,3 +67,8 @@ module _ (names : Names) (items : List Tree) (l p : Tree) (rs : List Rule) (es :
   count_starts h list is =
       starts {names = names} (λ stay. count_row names stay items) (walking rs (Tally.Counts 0) es) r is
       (λ stay. two (count_row names) stay items l p two_items ∙ (count_begins names stay h p l es list ∙ ap (λ xs. counted names xs es 0) (sym rule)))
+
+  pub free_starts : es ≡ parts l → IfOk r (λ o. o ≡ Some (walking rs (Tally.Decides false) es)) → Starts (left names) (λ stay. free_q names stay items) r
+  free_starts all is =
+      starts {names = names} (λ stay. free_q names stay items) (walking rs (Tally.Decides false) es) r is
+      (λ stay. two (free_q names) stay items l p two_items ∙ (frees names p l ∙ (λ i. first_of names (sym rule i) (Done (truth names false)) (Done (truth names true)) (sym all i))))

@@ -16,6 +16,7 @@ use Rattle.replacing_frames.specs.Walks.{left_walk}
 abbrev pub is_replacing : Builtin → Bool
 is_replacing Builtin.MatchQ = true
 is_replacing Builtin.MemberQ = true
+is_replacing Builtin.FreeQ = true
 is_replacing Builtin.Count = true
 is_replacing _ = false
 

@@ -1,3 +1,4 @@
 pub mod Left
 pub mod Moving
+pub mod Parts
 pub mod Walks

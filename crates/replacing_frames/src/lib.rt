@@ -1,6 +1,7 @@
 //! The rows that ask whether a pattern matches, as machines: a machine asks for the values of guards, until it has the result of its row.
 #![tactic(auto)]
 
+mod parts;
 mod replacing;
 mod rule_sets;
 mod tally;

@@ -8,6 +8,7 @@ ghost use Rattle.frame_steps.specs.Setup.{setting_of};
 ghost use Rattle.frame_steps.specs.Steps.{Starts, Stepped, Falls};
 ghost use Rattle.replacing_frames.specs.Left.{is_replacing, left, questions, walking};
 
+use crate::parts::parts_of;
 use crate::rule_sets::asks;
 use crate::tally::Tally;
 use crate::walk::Walk;
@@ -76,6 +77,20 @@ fn member_q(alloc: Global, names: &Names, items: &[Expr]) -> Result<Option<Repla
     walk(alloc, rules, Tally::Decides(true), elements.as_slice())
 }
 
+/// FreeQ: whether no part matches.
+#[tactic(auto, using(expr_tree::proofs::Pairs::pair_steps))]
+fn free_q(alloc: Global, names: &Names, items: &[Expr]) -> Result<Option<Replacing>, AllocError>
+    requires names { HasBuiltins names.now }
+    ensures { Starts (left (names_in names.now)) (λ stay. replace.free_q (names_in names.now) stay items.now) result }
+{
+    let Some((subject, pattern)) = pair_of(items) else {
+        return Ok(None);
+    };
+    let rules = asks(alloc, names, pattern)?;
+    let parts = parts_of(alloc, subject)?;
+    walk(alloc, rules, Tally::Decides(false), parts.as_slice())
+}
+
 /// Count: how many elements match.
 #[tactic(auto, using(expr_tree::proofs::Callers::tree_steps, expr_tree::proofs::Pairs::pair_steps))]
 fn count(alloc: Global, names: &Names, items: &[Expr]) -> Result<Option<Replacing>, AllocError>
@@ -107,6 +122,7 @@ pub fn start(
     match row {
         Builtin::MatchQ => Some(match_q(alloc, names, items)),
         Builtin::MemberQ => Some(member_q(alloc, names, items)),
+        Builtin::FreeQ => Some(free_q(alloc, names, items)),
         Builtin::Count => Some(count(alloc, names, items)),
         _ => None,
     }
