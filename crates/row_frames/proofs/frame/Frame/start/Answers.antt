@@ -9,4 +9,4 @@ pub returns-in-Some-start-2-clause-starts : goal.returns-in-Some-start-2-clause-
 returns-in-Some-start-2-clause-starts c = c.iterating.ensures (names_in c.args.names.now) (λ stay. t.row (names_in c.args.names.now) c.args.row stay c.args.items.now) c.in-Some-start-2.ensures.starts
 
 pub returns-in-Some-start-3-clause-starts : goal.returns-in-Some-start-3-clause-starts
-returns-in-Some-start-3-clause-starts c = c.replacing.ensures (names_in c.args.names.now) (λ stay. t.row (names_in c.args.names.now) c.args.row stay c.args.items.now) c.in-Some-start-3.ensures.starts
+returns-in-Some-start-3-clause-starts c = c.replacing.ensures (names_in c.args.names.now) (λ stay. t.row (names_in c.args.names.now) c.args.row stay c.args.items.now) c.in-Some-start-3.ensures.started
