@@ -1,2 +1,4 @@
 mod Numbered
 mod Picked
+mod Cuts
+mod Columns
