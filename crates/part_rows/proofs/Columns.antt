@@ -1,11 +1,14 @@
 -- Rows and columns.
-use Rattle.std.proofs.Common.{◌≡◌, ◌≢◌, ℕ, zero, suc, ◌+◌, ◌-◌, ◌<◌, ◌≤◌, max, refl, ap, sym, subst, ◌∙◌, Bool, true, false, List, [], ◌∷◌, ◌++◌, Option, Some, None, Ok, Err, map, length, get_or, take, drop, drop-cons, add-one, append_assoc, append-nil, arith}
-use Rattle.std.specs.Prelude.{◌==◌, ◌&&◌}
+use Rattle.std.proofs.Common.{◌≡◌, ◌≢◌, ℕ, zero, suc, ◌+◌, ◌-◌, ◌<◌, ◌≤◌, max, refl, ap, sym, subst, ◌∙◌, Bool, true, false, List, [], ◌∷◌, ◌++◌, Option, Some, None, Err, map, length, get_or, drop, drop-cons, add-one, append_assoc, append-nil, arith}
+use Rattle.std.specs.Prelude.{◌==◌, ◌&&◌, Result}
 use Rattle.std.specs.Bool.{IsTrue}
 use Rattle.std.proofs.lemmas.Bool.{eq-eqb, ne_eqb}
-use Rattle.expr_tree.specs.Tree.{Tree, Trees, nil, cons, integer, string, symbol, normal, call, elements, trees, size, sizes, depth, depths}
+use Rattle.expr_tree.specs.Limits.{MakesAll}
+use Rattle.expr_tree.specs.Tree.{Tree, integer, string, symbol, normal, elements, trees, size, sizes, depth, depths}
+use Rattle.expr_tree.specs.declared.built.Built.{Built}
+use Rattle.expr_tree.specs.declared.built.Built.TheVariants.{TooDeep}
 use Rattle.expr_tree.proofs.Callers.{tree_steps}
-use Rattle.expr_tree.proofs.Trees.{elements-trees, trees-elements}
+use Rattle.expr_tree.proofs.Trees.{trees-elements}
 use Rattle.semantics.specs.declared.builtin.Builtin.{Builtin}
 use Rattle.semantics.specs.Names.{Names, is_call, items_of, make}
 use Rattle.semantics.specs.Worked.{Worked, Stays, Gives}
@@ -16,7 +19,7 @@ use Rattle.part_rows.proofs.Numbered.{at_within, at_past}
 next : (es : List Tree) (i : ℕ) (x : Tree) → i < length es → x ≡ get_or es i x → drop i es ≡ x ∷ drop (i + 1) es
 next es i x p is = rw (drop-cons es i x p, add-one) (ap (λ u. u ∷ drop (suc i) es) (sym is))
 
-not_true : (b : Bool) → (b ≡ true → ⊥) → b ≡ false
+pub not_true : (b : Bool) → (b ≡ true → ⊥) → b ≡ false
 not_true true p = absurd (p refl)
 not_true false p = refl
 
@@ -87,13 +90,20 @@ first_none names x rest es n list items count long =
 first_no_list : (names : Names) (x : Tree) (rest : List Tree) → (IsTrue (is_call names Builtin.List x) → ⊥) → width names (x ∷ rest) ≡ None
 first_no_list names x rest other = ap (λ t. width_in (rows_from t (items_of x) (rows_of names rest))) (not_true (is_call names Builtin.List x) other)
 
-pub width_some : (names : Names) (rows : List Tree) (x : Tree) (es : List Tree) (n : ℕ) → 1 ≤ length rows → x ≡ get_or rows 0 x → IsTrue (is_call names Builtin.List x) → es ≡ items_of x → n ≡ length es → are_long names n (drop 1 rows) ≡ true → width names rows ≡ Some n
-width_some names [] x es n some is list items count long = absurd (omega (arith, some))
-width_some names (y ∷ ys) x es n some is list items count long = ap (λ z. width names (z ∷ ys)) (sym is) ∙ first_some names x ys es n list items count long
+-- the first row is as long as itself
+first_long : (names : Names) (x y : Tree) (ys es : List Tree) (n : ℕ) → x ≡ y → IsTrue (is_call names Builtin.List x) → es ≡ items_of x → n ≡ length es → are_long names n ys ≡ are_long names n (y ∷ ys)
+first_long names x y ys es n is list items count =
+    sym (λ j. one_long (list j) (eq-eqb (length (items_of x)) n (ap length (sym items) ∙ sym count) j) (are_long names n ys)) ∙ ap (λ z. are_long names n (z ∷ ys)) is
 
-pub width_none : (names : Names) (rows : List Tree) (x : Tree) (es : List Tree) (n : ℕ) → 1 ≤ length rows → x ≡ get_or rows 0 x → IsTrue (is_call names Builtin.List x) → es ≡ items_of x → n ≡ length es → are_long names n (drop 1 rows) ≡ false → width names rows ≡ None
+pub width_some : (names : Names) (rows : List Tree) (x : Tree) (es : List Tree) (n : ℕ) → 1 ≤ length rows → x ≡ get_or rows 0 x → IsTrue (is_call names Builtin.List x) → es ≡ items_of x → n ≡ length es → are_long names n rows ≡ true → width names rows ≡ Some n
+width_some names [] x es n some is list items count long = absurd (omega (arith, some))
+width_some names (y ∷ ys) x es n some is list items count long =
+    ap (λ z. width names (z ∷ ys)) (sym is) ∙ first_some names x ys es n list items count (first_long names x y ys es n is list items count ∙ long)
+
+pub width_none : (names : Names) (rows : List Tree) (x : Tree) (es : List Tree) (n : ℕ) → 1 ≤ length rows → x ≡ get_or rows 0 x → IsTrue (is_call names Builtin.List x) → es ≡ items_of x → n ≡ length es → are_long names n rows ≡ false → width names rows ≡ None
 width_none names [] x es n some is list items count long = absurd (omega (arith, some))
-width_none names (y ∷ ys) x es n some is list items count long = ap (λ z. width names (z ∷ ys)) (sym is) ∙ first_none names x ys es n list items count long
+width_none names (y ∷ ys) x es n some is list items count long =
+    ap (λ z. width names (z ∷ ys)) (sym is) ∙ first_none names x ys es n list items count (first_long names x y ys es n is list items count ∙ long)
 
 pub width_no_list : (names : Names) (rows : List Tree) (x : Tree) → 1 ≤ length rows → x ≡ get_or rows 0 x → (IsTrue (is_call names Builtin.List x) → ⊥) → width names rows ≡ None
 width_no_list names [] x some is other = absurd (omega (arith, some))
@@ -198,8 +208,14 @@ columns_depth names place (suc n) es =
     let b : depths (trees (columns names (suc place) n (map items_of es))) ≤ max 2 (depths (trees es)) = columns_depth names (suc place) n es in
     omega (arith, a, b)
 
-pub rows_depth : (e : Tree) (rows : List Tree) → rows ≡ items_of e → depths (trees rows) + 1 ≤ depth e
-rows_depth e rows is = subst (λ es. depths (trees es) + 1 ≤ depth e) (sym is) (under_depth e)
+pub columns_shallow : (names : Names) (n nodes : ℕ) (rows : List Tree) (fault : Built) (r : Result (List Tree) Built) → depths (trees rows) < 512 → fault ≡ TooDeep nodes → r ≡ Err fault
+    → MakesAll (trees (columns names 0 n (map items_of rows))) r → ⊥
+columns_shallow names n nodes rows fault r shallow shape is made =
+    let deep : 512 < depths (trees (columns names 0 n (map items_of rows))) = subst (λ q. MakesAll (trees (columns names 0 n (map items_of rows))) q) (is ∙ ap Err shape) made in
+    omega (arith, columns_depth names 0 n rows, shallow, deep)
+
+pub rows_shallow : (e : Tree) (rows : List Tree) → rows ≡ items_of e → depth e ≤ 512 → depths (trees rows) < 512
+rows_shallow e rows is shallow = subst (λ es. depths (trees es) < 512) (sym is) (omega (arith, under_depth e, shallow))
 
 -- ---- the row
 
@@ -252,4 +268,4 @@ transpose_none names e rows list items wide = from_rows names e rows list items 
 pub transpose_no_list : (names : Names) (e : Tree) → (IsTrue (is_call names Builtin.List e) → ⊥) → transpose names (e ∷ []) ≡ Stays
 transpose_no_list names e other = ap (λ t. if_list t (by_rows names (rows_of names (items_of e)))) (not_true (is_call names Builtin.List e) other)
 
-pub ruleset row_steps = (tree_steps, transpose_some, transpose_none, transpose_no_list, columns_depth, rows_depth)
+pub ruleset row_steps = (tree_steps, transpose_some, transpose_none, transpose_no_list, rows_shallow)

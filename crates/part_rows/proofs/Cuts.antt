@@ -1,13 +1,13 @@
 -- Pieces of a list, one after another.
-use Rattle.std.proofs.Common.{◌≡◌, ◌≢◌, ℕ, zero, suc, ◌+◌, ◌-◌, ◌<◌, ◌≤◌, max, refl, ap, sym, subst, ◌∙◌, Bool, true, false, List, [], ◌∷◌, ◌++◌, Option, Some, None, map, length, take, drop, append_assoc, append-nil, arith}
+use Rattle.std.proofs.Common.{◌≡◌, ◌≢◌, ℕ, zero, suc, ◌+◌, ◌-◌, ◌<◌, ◌≤◌, max, refl, ap, sym, ◌∙◌, Bool, true, false, List, [], ◌∷◌, ◌++◌, map, length, take, drop, append_assoc, append-nil, arith}
 use Rattle.std.specs.Prelude.{ℤ, pos, negsuc, nat_abs, leb, ◌<ℤ◌, ◌≤ℤ◌}
-use Rattle.std.proofs.lemmas.Bool.{leb-true, leb-false, le-leb, lt-leb}
+use Rattle.std.proofs.lemmas.Bool.{leb-true, le-leb, lt-leb}
 use Rattle.std.proofs.lemmas.Int.{ints}
 use Rattle.std.proofs.lemmas.List.{length-drop, drop-drop}
-use Rattle.expr_tree.specs.Tree.{Tree, Trees, integer, normal, call, elements, trees, size, sizes, depth, depths}
+use Rattle.expr_tree.specs.Tree.{Tree, integer, string, symbol, normal, call, trees, size, sizes, depth, depths}
 use Rattle.expr_tree.proofs.Callers.{tree_steps}
 use Rattle.expr_tree.proofs.Trees.{elements-trees}
-use Rattle.semantics.specs.Worked.{Worked, Stays, Gives}
+use Rattle.semantics.specs.Worked.{Stays, Gives}
 use Rattle.semantics.specs.Lists.{pieces, partition}
 use Rattle.part_rows.specs.Cut.{cut}
 
@@ -78,27 +78,43 @@ pub ruleset count_steps = (tree_steps, cut_sizes, cut_nothing)
 
 -- ---- the row
 
-pub row_stays : (e h : Tree) (es : List Tree) (z : ℤ) → normal h (trees es) ≡ e → z ≤ℤ pos 0 → partition (e ∷ integer z ∷ []) ≡ Stays
-row_stays e h es (pos zero) is down = sym (ap (λ f. partition (f ∷ integer (pos zero) ∷ [])) is)
-row_stays e h es (pos (suc n)) is down = absurd (omega (arith, ints, down))
-row_stays e h es (negsuc n) is down = sym (ap (λ f. partition (f ∷ integer (negsuc n) ∷ [])) is)
+pub row_stays : (h : Tree) (es : List Tree) (z : ℤ) → z ≤ℤ pos 0 → partition (call h es ∷ integer z ∷ []) ≡ Stays
+row_stays h es (pos zero) down = refl
+row_stays h es (pos (suc n)) down = absurd (omega (arith, ints, down))
+row_stays h es (negsuc n) down = refl
 
-in_pieces : (e h : Tree) (es : List Tree) (n : ℕ) → normal h (trees es) ≡ e → partition (e ∷ integer (pos (suc n)) ∷ []) ≡ Gives (call h (map (call h) (pieces (length es) (suc n) es)))
-in_pieces e h es n is = ap (λ f. partition (f ∷ integer (pos (suc n)) ∷ [])) (sym is) ∙ ap (λ fs. Gives (call h (map (call h) (pieces (length fs) (suc n) fs)))) (elements-trees es)
+in_pieces : (h : Tree) (es : List Tree) (n : ℕ) → partition (call h es ∷ integer (pos (suc n)) ∷ []) ≡ Gives (call h (map (call h) (pieces (length es) (suc n) es)))
+in_pieces h es n = ap (λ fs. Gives (call h (map (call h) (pieces (length fs) (suc n) fs)))) (elements-trees es)
 
 -- no piece is longer than what there is
 no_piece : (m n : ℕ) (es : List Tree) → length es < n → pieces m n es ≡ []
 no_piece zero n es short = refl
 no_piece (suc m) n es short = ap (piece_or_end m n es) (lt-leb n (length es) short)
 
-pub row_empty : (e h : Tree) (es : List Tree) (z : ℤ) → normal h (trees es) ≡ e → pos (length es) <ℤ z → partition (e ∷ integer z ∷ []) ≡ Gives (call h [])
-row_empty e h es (pos zero) is far = absurd (omega (arith, ints, far))
-row_empty e h es (pos (suc n)) is far = in_pieces e h es n is ∙ ap (λ ps. Gives (call h (map (call h) ps))) (no_piece (length es) (suc n) es (omega (arith, ints, far)))
-row_empty e h es (negsuc n) is far = absurd (omega (arith, ints, far))
+pub row_empty : (h : Tree) (es : List Tree) (z : ℤ) → pos (length es) <ℤ z → partition (call h es ∷ integer z ∷ []) ≡ Gives (call h [])
+row_empty h es (pos zero) far = absurd (omega (arith, ints, far))
+row_empty h es (pos (suc n)) far = in_pieces h es n ∙ ap (λ ps. Gives (call h (map (call h) ps))) (no_piece (length es) (suc n) es (omega (arith, ints, far)))
+row_empty h es (negsuc n) far = absurd (omega (arith, ints, far))
 
-pub row_cuts : (e h : Tree) (es : List Tree) (z : ℤ) → normal h (trees es) ≡ e → pos 0 <ℤ z → partition (e ∷ integer z ∷ []) ≡ Gives (call h (map (call h) (cut (nat_abs z) 0 es)))
-row_cuts e h es (pos zero) is up = absurd (omega (arith, ints, up))
-row_cuts e h es (pos (suc n)) is up = let k : length es ≡ length es - 0 = omega arith in in_pieces e h es n is ∙ ap (λ m. Gives (call h (map (call h) (pieces m (suc n) es)))) k
-row_cuts e h es (negsuc n) is up = absurd (omega (arith, ints, up))
+pub row_cuts : (h : Tree) (es : List Tree) (z : ℤ) → pos 0 <ℤ z → partition (call h es ∷ integer z ∷ []) ≡ Gives (call h (map (call h) (cut (nat_abs z) 0 es)))
+row_cuts h es (pos zero) up = absurd (omega (arith, ints, up))
+row_cuts h es (pos (suc n)) up = let k : length es ≡ length es - 0 = omega arith in in_pieces h es n ∙ ap (λ m. Gives (call h (map (call h) (pieces m (suc n) es)))) k
+row_cuts h es (negsuc n) up = absurd (omega (arith, ints, up))
 
 pub ruleset row_steps = (tree_steps, row_stays, row_empty, row_cuts)
+
+pub row_other : (es : List Tree) → length es ≢ 2 → partition es ≡ Stays
+row_other [] other = refl
+row_other (integer z ∷ es) other = refl
+row_other (string t ∷ es) other = refl
+row_other (symbol s ∷ es) other = refl
+row_other (normal h ts ∷ []) other = refl
+row_other (normal h ts ∷ e ∷ []) other = absurd (other refl)
+row_other (normal h ts ∷ string t ∷ f ∷ es) other = refl
+row_other (normal h ts ∷ symbol s ∷ f ∷ es) other = refl
+row_other (normal h ts ∷ normal g us ∷ f ∷ es) other = refl
+row_other (normal h ts ∷ integer (pos zero) ∷ f ∷ es) other = refl
+row_other (normal h ts ∷ integer (pos (suc n)) ∷ f ∷ es) other = refl
+row_other (normal h ts ∷ integer (negsuc n) ∷ f ∷ es) other = refl
+
+pub ruleset other_steps = (tree_steps, row_other)

@@ -2,3 +2,4 @@ mod Numbered
 mod Picked
 mod Cuts
 mod Columns
+mod Ranges

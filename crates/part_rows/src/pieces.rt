@@ -1,13 +1,13 @@
 //! Partition.
-ghost use Rattle.std.specs.Prelude.{◌≡◌, ◌<◌, ◌≤◌, length, map, min};
+ghost use Rattle.std.specs.Prelude.{◌≡◌, ◌<◌, [], ◌∷◌, map, min};
 ghost use Rattle.expr_tree.specs.Limits.{MakesAll};
-ghost use Rattle.expr_tree.specs.Tree.{call, sizes, trees};
+ghost use Rattle.expr_tree.specs.Tree.{call, integer, sizes, trees};
 ghost use Rattle.semantics.specs.Lists as l;
 ghost use Rattle.semantics.specs.Worked.{Gives};
 ghost use Rattle.builtin_names.specs.Results.{Works};
 ghost use Rattle.part_rows.specs.Cut.{cut};
 
-use crate::answer::copies;
+use crate::answer::{copies, under};
 use builtin_names::Fault;
 use expr_tree::{Built, Expr, Exprs, MAX_SIZE, Node};
 use item_list::Items;
@@ -70,7 +70,7 @@ fn cut_under(
     ensures { Works (Gives (call head.now (map (call head.now) (cut length 0 items.now)))) result }
 {
     match pieces(alloc, head, items, length) {
-        Ok(made) => Ok(Some(Expr::normal(alloc, head.copy(alloc)?, made)?)),
+        Ok(made) => under(alloc, head, made),
         Err(Built::TooDeep(_)) => {
             let nodes = head.size() + nodes_of_pieces(head, items, length);
             if nodes > MAX_SIZE {
@@ -83,8 +83,22 @@ fn cut_under(
     }
 }
 
-/// `Partition`.
+/// The elements under a head in pieces of so many.
 #[tactic(auto, using(crate::proofs::Cuts::row_steps))]
+fn parted(alloc: Global, head: &Expr, items: &[Expr], number: i128) -> Result<Option<Expr>, Fault>
+    ensures { Works (l.partition (call head.now items.now ∷ integer number ∷ [])) result }
+{
+    if number <= 0 {
+        return Ok(None);
+    }
+    if number > items.len() as i128 {
+        return under(alloc, head, Items::new(alloc));
+    }
+    cut_under(alloc, head, items, number as usize)
+}
+
+/// `Partition`.
+#[tactic(auto, using(crate::proofs::Cuts::other_steps))]
 pub fn row_partition(alloc: Global, items: &Exprs) -> Result<Option<Expr>, Fault>
     ensures { Works (l.partition items.now) result }
 {
@@ -97,12 +111,5 @@ pub fn row_partition(alloc: Global, items: &Exprs) -> Result<Option<Expr>, Fault
     let Node::Int(number) = number.node() else {
         return Ok(None);
     };
-    if *number <= 0 {
-        return Ok(None);
-    }
-    if *number > elements.len() as i128 {
-        let none = Items::new(alloc);
-        return Ok(Some(Expr::normal(alloc, head.copy(alloc)?, none)?));
-    }
-    cut_under(alloc, head, elements.as_slice(), *number as usize)
+    parted(alloc, head, elements.as_slice(), *number)
 }

@@ -23,9 +23,9 @@ fn are_few(from: i128, to: i128, by: i128) -> bool
 {
     let mut numbers = Progression::new(from, to, by);
     for _k in 0..MAX_SIZE {
-        if numbers.next().is_none() {
+        let Some(_) = numbers.next() else {
             return true;
-        }
+        };
     }
     false
 }
@@ -45,7 +45,7 @@ fn numbered(alloc: Global, from: i128, to: i128, by: i128) -> Result<Exprs, Allo
     }
 }
 
-#[tactic(auto, using(crate::proofs::Ranges::list_steps))]
+#[tactic(auto, using(expr_tree::proofs::Callers::tree_steps))]
 fn ranged(
     alloc: Global,
     names: &Names,
@@ -56,11 +56,12 @@ fn ranged(
     requires names { HasBuiltins names.now }
     ensures { Works (Gives (make (names_in names.now) Builtin.List (l.count_up from by (steps_to from to by)))) result }
 {
-    if !are_few(from, to, by) {
-        return Err(Fault::TooLarge);
+    if are_few(from, to, by) {
+        let numbers = numbered(alloc, from, to, by)?;
+        Ok(Some(make(alloc, names, Builtin::List, numbers)?))
+    } else {
+        Err(Fault::TooLarge)
     }
-    let numbers = numbered(alloc, from, to, by)?;
-    Ok(Some(make(alloc, names, Builtin::List, numbers)?))
 }
 
 fn to_end(alloc: Global, names: &Names, to: &Expr) -> Result<Option<Expr>, Fault>
@@ -73,12 +74,7 @@ fn to_end(alloc: Global, names: &Names, to: &Expr) -> Result<Option<Expr>, Fault
     ranged(alloc, names, 1, *to, 1)
 }
 
-fn from_start(
-    alloc: Global,
-    names: &Names,
-    from: &Expr,
-    to: &Expr,
-) -> Result<Option<Expr>, Fault>
+fn from_start(alloc: Global, names: &Names, from: &Expr, to: &Expr) -> Result<Option<Expr>, Fault>
     requires names { HasBuiltins names.now }
     ensures { Works (l.range (names_in names.now) (from.now ∷ to.now ∷ [])) result }
 {

@@ -1,9 +1,11 @@
 //! Transpose.
-ghost use Rattle.std.specs.Prelude.{◌≡◌, [], ◌∷◌, IfOk, map};
+ghost use Rattle.std.specs.Prelude.{◌≡◌, ◌<◌, [], ◌∷◌, IfOk, map};
 ghost use Rattle.expr_tree.specs.Limits.{MakesAll};
-ghost use Rattle.expr_tree.specs.Tree.{trees};
+ghost use Rattle.expr_tree.specs.Tree.{trees, depths};
 ghost use Rattle.semantics.specs.Lists as l;
 ghost use Rattle.semantics.specs.Names as n;
+ghost use Rattle.semantics.specs.Worked.{Gives};
+ghost use Rattle.semantics.specs.declared.builtin.Builtin.{Builtin};
 ghost use Rattle.builtin_names.specs.Named.{HasBuiltins, names_in};
 ghost use Rattle.builtin_names.specs.Results.{Works};
 ghost use Rattle.part_rows.specs.Widths.{are_long, width};
@@ -38,11 +40,11 @@ fn width(names: &Names, rows: &[Expr]) -> Option<usize>
     requires names { HasBuiltins names.now }
     ensures { result ≡ width (names_in names.now) rows.now }
 {
-    let [first, rest @ ..] = rows else {
+    let [first, ..] = rows else {
         return None;
     };
     let length = items_under(names, Builtin::List, first)?.len();
-    if are_long(names, length, rest) {
+    if are_long(names, length, rows) {
         Some(length)
     } else {
         None
@@ -78,24 +80,33 @@ fn columns(alloc: Global, names: &Names, rows: &[Expr], width: usize) -> Result<
     Ok(made)
 }
 
-#[tactic(auto, using(crate::proofs::Columns::row_steps))]
-fn transposed(alloc: Global, names: &Names, e: &Expr) -> Result<Option<Expr>, Fault>
+/// The columns of rows that are not too deep, as a List.
+#[tactic(auto, using(expr_tree::proofs::Callers::tree_steps))]
+fn turned(alloc: Global, names: &Names, rows: &[Expr], width: usize) -> Result<Option<Expr>, Fault>
     requires names { HasBuiltins names.now }
-    ensures { Works (l.transpose (names_in names.now) (e.now ∷ [])) result }
+    requires shallow { depths (trees rows.now) < 512 }
+    ensures { Works (Gives (n.make (names_in names.now) Builtin.List (l.columns (names_in names.now) 0 width (map n.items_of rows.now)))) result }
 {
-    let Some(rows) = items_under(names, Builtin::List, e) else {
-        return Ok(None);
-    };
-    let rows = rows.as_slice();
-    let Some(width) = width(names, rows) else {
-        return Ok(None);
-    };
-    let _shallow = e.depth();
     match columns(alloc, names, rows, width) {
         Ok(made) => Ok(Some(make(alloc, names, Builtin::List, made)?)),
         Err(Built::TooLarge) => Err(Fault::TooLarge),
         Err(Built::TooDeep(_)) => unreachable!(),
         Err(Built::NoMemory) => Err(Fault::NoMemory),
+    }
+}
+
+#[tactic(auto, using(crate::proofs::Columns::row_steps))]
+fn transposed(alloc: Global, names: &Names, e: &Expr) -> Result<Option<Expr>, Fault>
+    requires names { HasBuiltins names.now }
+    ensures { Works (l.transpose (names_in names.now) (e.now ∷ [])) result }
+{
+    let _shallow = e.depth();
+    let Some(rows) = items_under(names, Builtin::List, e) else {
+        return Ok(None);
+    };
+    match width(names, rows.as_slice()) {
+        Some(width) => turned(alloc, names, rows.as_slice(), width),
+        None => Ok(None),
     }
 }
 
