@@ -1,2 +1,5 @@
 mod Numbered
 mod Picked
+mod Cuts
+mod Columns
+mod Ranges

@@ -1,2 +1,4 @@
 pub mod Finds
+pub mod Cut
+pub mod Widths
 pub mod Rows

@@ -6,6 +6,9 @@ ghost use Rattle.builtin_names.specs.Results.{Works};
 ghost use Rattle.part_rows.specs.Rows.{is_of_parts};
 
 use crate::parts::row_part;
+use crate::pieces::row_partition;
+use crate::range::row_range;
+use crate::transposed::row_transpose;
 use builtin_names::Fault;
 use expr_tree::{Expr, Exprs};
 use name_table::Names;
@@ -26,6 +29,9 @@ pub fn rewrite(
 {
     match row {
         Builtin::Part => Some(row_part(alloc, names, items)),
+        Builtin::Partition => Some(row_partition(alloc, items)),
+        Builtin::Transpose => Some(row_transpose(alloc, names, items)),
+        Builtin::Range => Some(row_range(alloc, names, items)),
         _ => None,
     }
 }
