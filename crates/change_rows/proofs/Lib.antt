@@ -2,3 +2,7 @@ mod Going
 mod Flags
 mod Guarding
 mod Renewals
+mod Attaching
+pub mod Smaller
+mod Sides
+mod Forms

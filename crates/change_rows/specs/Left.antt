@@ -7,10 +7,12 @@ use Rattle.change_rows.specs.declared.change.Change.{Change}
 use Rattle.change_rows.specs.declared.renewal.Renewal.{Renewal}
 use Rattle.change_rows.specs.Single.{done_to}
 use Rattle.change_rows.specs.Renewing.{left_renewal}
+use Rattle.change_rows.specs.Assigning.{asked_in, left_assignment}
 
 abbrev pub left : Names → Change → Prog → Option Tree → Prog
 left names (Change.Single f) stay answer = done_to names f.symbol f.deed
 left names (Change.Renewal f) stay answer = left_renewal names f answer
+left names (Change.Assignment f) stay answer = left_assignment names f answer
 
 abbrev pub asked_once : Renewal → ℕ
 asked_once f = elim f.before [ None ↦ 1 | Some old ↦ 0 ]
@@ -19,6 +21,7 @@ asked_once f = elim f.before [ None ↦ 1 | Some old ↦ 0 ]
 abbrev pub asked_by : Change → ℕ
 asked_by (Change.Single f) = 0
 asked_by (Change.Renewal f) = asked_once f
+asked_by (Change.Assignment f) = asked_in f.phase
 
 abbrev pub questions : Names → Change → Option Tree → ℕ
 questions names f answer = asked_by f

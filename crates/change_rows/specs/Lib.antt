@@ -4,5 +4,6 @@ pub mod Named
 pub mod Shapes
 pub mod Single
 pub mod Renewing
+pub mod Assigning
 pub mod Left
 pub mod Effects

@@ -4,6 +4,12 @@ use Rattle.std.specs.Prelude.{Bool, true, false}
 use Rattle.semantics.specs.declared.builtin.Builtin.{Builtin}
 
 abbrev pub is_change : Builtin → Bool
+is_change Builtin.Set = true
+is_change Builtin.SetDelayed = true
+is_change Builtin.UpSet = true
+is_change Builtin.UpSetDelayed = true
+is_change Builtin.TagSet = true
+is_change Builtin.TagSetDelayed = true
 is_change Builtin.Increment = true
 is_change Builtin.Decrement = true
 is_change Builtin.PreIncrement = true

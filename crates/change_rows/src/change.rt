@@ -9,12 +9,13 @@ ghost use Rattle.change_rows.specs.Rows.{is_change};
 ghost use Rattle.change_rows.specs.Left.{left, questions};
 ghost use Rattle.change_rows.specs.Results.{done_with};
 
+use crate::assignment::{Assignment, of_form, of_tag};
 use crate::renewal::{Renewal, of_integer, of_negated, of_operand};
 use crate::single::{Deed, Single, of_attributes, of_symbol};
 use evaluation_steps::Halt;
 use expr_tree::Expr;
 use frame_steps::{Move, Scene};
-use kernel_defs::Defs;
+use kernel_defs::{Defs, Form};
 use name_table::Names;
 use semantics::Builtin;
 use std::alloc::{AllocError, Global};
@@ -24,6 +25,7 @@ use std::alloc::{AllocError, Global};
 pub enum Change {
     Single(Single),
     Renewal(Renewal),
+    Assignment(Assignment),
 }
 
 impl Change {
@@ -40,6 +42,12 @@ impl Change {
         ensures starts { IfSome result (λ r. Starts (left (names_in names.now)) (λ stay. t.row (names_in names.now) row stay items.now) r) }
     {
         match row {
+            Builtin::Set => Some(of_form(alloc, names, Form::Set, items)),
+            Builtin::SetDelayed => Some(of_form(alloc, names, Form::SetDelayed, items)),
+            Builtin::UpSet => Some(of_form(alloc, names, Form::UpSet, items)),
+            Builtin::UpSetDelayed => Some(of_form(alloc, names, Form::UpSetDelayed, items)),
+            Builtin::TagSet => Some(of_tag(alloc, names, false, items)),
+            Builtin::TagSetDelayed => Some(of_tag(alloc, names, true, items)),
             Builtin::Increment => Some(of_integer(names, 1, true, items)),
             Builtin::Decrement => Some(of_integer(names, -1, true, items)),
             Builtin::PreIncrement => Some(of_integer(names, 1, false, items)),
@@ -74,6 +82,7 @@ impl Change {
         match self {
             Change::Single(row) => done_with(row.step(scene, defs, used)),
             Change::Renewal(row) => row.step(scene, defs, used, answer),
+            Change::Assignment(row) => row.step(scene, defs, used, answer),
         }
     }
 }

@@ -1,8 +1,10 @@
 //! What a step reads of definitions and of the mode.
 ghost use Rattle.std.specs.Prelude.{◌≡◌, ◌||◌, is_some};
+ghost use Rattle.semantics.specs.Changes as changes;
 ghost use Rattle.semantics.specs.Play.{seen};
 ghost use Rattle.builtin_names.specs.Named.{names_in};
 ghost use Rattle.frame_steps.specs.Setup.{mode_of};
+ghost use Rattle.kernel_defs.proofs.Runs.{seen_all};
 ghost use Rattle.change_rows.specs.Effects.{is_refused};
 
 use expr_tree::Sym;
@@ -24,6 +26,18 @@ pub(crate) fn note_use(used: &mut bool, shared: bool)
     if shared {
         *used = true;
     }
+}
+
+/// Whether some of these symbols are shared.
+pub(crate) fn any_shared(scene: &Scene, defs: &Defs, symbols: &[Sym]) -> bool
+    ensures { result ≡ changes.any_shared (seen_all (names_in scene.now.names.now) defs.now symbols.now) }
+{
+    for symbol in symbols {
+        if is_shared(scene, defs, *symbol) {
+            return true;
+        }
+    }
+    false
 }
 
 /// Whether a change of a shared symbol fails here, where it is no access.

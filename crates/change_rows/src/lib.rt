@@ -1,13 +1,19 @@
 //! The rows of the built-in table that change definitions, as one machine: it asks for values, and reads and changes definitions between.
 #![tactic(auto)]
 
+mod assign;
+mod assignment;
 mod attributes;
 mod change;
 mod effects;
+mod elements;
+mod left_call;
 mod renewal;
 mod shapes;
 mod single;
 
+pub use assignment::{Assignment, Goal, Phase};
 pub use change::Change;
+pub use elements::Elements;
 pub use renewal::{Operand, Renewal};
 pub use single::{Deed, Single};

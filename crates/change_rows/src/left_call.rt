@@ -1,0 +1,94 @@
+//! The call that a left side is, once its head and its elements have their values.
+ghost use Rattle.std.specs.Prelude.{◌≡◌, ◌≤◌, IfOk};
+ghost use Rattle.expr_tree.specs.Tree.{call, size, depth};
+ghost use Rattle.semantics.specs.Assemble as a;
+ghost use Rattle.semantics.specs.Names as n;
+ghost use Rattle.semantics.specs.declared.builtin.Builtin.{Builtin};
+ghost use Rattle.builtin_names.specs.Attributes.{attributes_in};
+ghost use Rattle.builtin_names.specs.Named.{names_in};
+ghost use Rattle.frame_steps.specs.Setup.{setting_of};
+ghost use Rattle.change_rows.specs.Effects.{Evaluates};
+ghost use Rattle.change_rows.specs.Assigning.{assembled, settled};
+
+use crate::elements::Elements;
+use attr_steps::{flattened, sorted, spliced, threaded};
+use builtin_names::make;
+use evaluation_steps::{Halt, checked, fits};
+use expr_tree::{Attrs, Built, Expr, Exprs, copy_items};
+use frame_steps::Scene;
+use semantics::Builtin;
+use std::alloc::{AllocError, Global};
+
+/// The call of a head and elements that is within the limits of an expression.
+fn call(alloc: Global, head: Expr, items: Exprs) -> Result<Expr, AllocError>
+    requires small { size (call head items) ≤ 4000000 }
+    requires shallow { depth (call head items) ≤ 512 }
+    ensures { IfOk result (λ e. e ≡ call head items) }
+{
+    match Expr::normal(alloc, head, items) {
+        Ok(e) => Ok(e),
+        Err(Built::NoMemory) => Err(AllocError),
+        Err(Built::TooLarge) | Err(Built::TooDeep(_)) => unreachable!(),
+    }
+}
+
+/// What sorting leaves, as the call.
+#[tactic(auto, using(crate::proofs::Smaller::smaller_steps))]
+fn sorted_call(alloc: Global, head: Expr, attrs: &Attrs, items: Exprs) -> Result<Expr, AllocError>
+    requires small { size (call head items) ≤ 4000000 }
+    requires shallow { depth (call head items) ≤ 512 }
+    ensures { IfOk result (λ e. e ≡ call head (a.sorted (attributes_in attrs.now) items)) }
+{
+    let items = sorted(alloc, attrs, items)?;
+    call(alloc, head, items)
+}
+
+/// The list of the calls to which a left side is threaded.
+fn listed(scene: &Scene, each: Exprs) -> Result<Expr, Halt>
+    ensures { Evaluates (setting_of scene.now) (λ k. a.check_all each (k (n.make (names_in scene.now.names.now) Builtin.List each))) result }
+{
+    for e in each.as_slice() {
+        if let Some(stop) = fits(&scene.limits, e) {
+            return Err(Halt::Stopped(stop));
+        }
+    }
+    match make(scene.alloc, scene.names, Builtin::List, each) {
+        Ok(list) => Ok(list),
+        Err(_) => Err(Halt::NoMemory),
+    }
+}
+
+/// What flattening, threading and sorting leave.
+fn settled(scene: &Scene, head: Expr, attrs: &Attrs, items: Exprs) -> Result<Expr, Halt>
+    requires small { size (call head items) ≤ 4000000 }
+    requires shallow { depth (call head items) ≤ 512 }
+    ensures { Evaluates (setting_of scene.now) (λ k. settled (names_in scene.now.names.now) head (attributes_in attrs.now) k items) result }
+{
+    let items = flattened(scene.alloc, &head, attrs, items)?;
+    match threaded(scene.alloc, scene.names, &head, attrs, items.as_slice())? {
+        Some(each) => listed(scene, each),
+        None => Ok(sorted_call(scene.alloc, head, attrs, items)?),
+    }
+}
+
+/// The left side after all steps that follow its elements.
+pub(crate) fn evaluated(scene: &Scene, elements: Elements) -> Result<Expr, Halt>
+    ensures { Evaluates (setting_of scene.now) (λ k. assembled (names_in scene.now.names.now) elements.head (attributes_in elements.attrs) k elements.done) result }
+{
+    let Elements {
+        head,
+        attrs,
+        rest: _,
+        done,
+    } = elements;
+    let items = spliced(scene.alloc, scene.names, &attrs, done)?;
+    let copies = copy_items(scene.alloc, &items)?;
+    match checked(scene.alloc, &scene.limits, head.copy(scene.alloc)?, copies) {
+        Err(halt) => Err(halt),
+        Ok(whole) => {
+            let _nodes = whole.size();
+            let _levels = whole.depth();
+            settled(scene, head, &attrs, items)
+        }
+    }
+}
