@@ -1,17 +1,14 @@
 -- The left side of an assignment, from what its parts tell.
-use Rattle.std.proofs.Common.{◌≡◌, ◌∙◌, inl, refl, sym, ap, ℕ, suc, ◌+◌, ◌<◌, ◌≤◌, Bool, true, false, List, [], ◌∷◌, ◌++◌, drop, length, get_or, Option, Some, None, Result, Ok, Err, arith, drop-cons, true≢false}
-use Rattle.std.proofs.lemmas.Grind.{common_steps}
-use Rattle.expr_tree.specs.declared.limits.Stop.{Stop}
-use Rattle.expr_tree.specs.Tree.{Tree, Trees, integer, string, symbol, normal, call, elements}
+use Rattle.std.proofs.Common.{◌≡◌, ◌∙◌, refl, sym, ap, ℕ, ◌≤◌, Bool, true, false, List, [], ◌∷◌, ◌++◌, Option, Result, Ok, Err, arith, true≢false}
+use Rattle.expr_tree.specs.Tree.{Tree, integer, string, symbol, normal}
 use Rattle.semantics.specs.Names.{Names}
-use Rattle.semantics.specs.Assemble.{left_side, is_asked, holds_first, holds_rest, ask_items, ask_rest, spliced, threaded, flattened, sorted, check_all, attributes_of}
+use Rattle.semantics.specs.Assemble.{left_side, ask_items, ask_rest, attributes_of}
 use Rattle.semantics.specs.Definitions.{Attributes, Definitions}
-use Rattle.semantics.specs.Program.{Prog, Ask, Check}
-use Rattle.semantics.specs.Play.{Setting, Evaluator, State, Over, Stopped, run, too_large, unless_stopped}
+use Rattle.semantics.specs.Program.{Prog, Ask}
+use Rattle.semantics.specs.Play.{Setting}
 use Rattle.evaluation_steps.specs.declared.Halt.{Halt}
-use Rattle.evaluation_steps.specs.Stopping.{HaltsFor}
 use Rattle.frame_steps.specs.declared.moves.Move.{Move}
-use Rattle.frame_steps.specs.Steps.{Stepped, Falls, state_at}
+use Rattle.frame_steps.specs.Steps.{Falls, state_at}
 use Rattle.change_rows.specs.Effects.{Evaluates}
 use Rattle.builtin_names.specs.Attributes.{attributes_in}
 use Rattle.expr_tree.specs.declared.attrs.Attrs.{Attrs}
@@ -21,50 +18,8 @@ use Rattle.change_rows.specs.declared.elements.Elements.{Elements}
 use Rattle.change_rows.specs.Assigning.{assembled, attributes_of_head, gone_on, headed_by, left_assignment, left_phase}
 use Rattle.change_rows.proofs.Going.{Leads, onward, same_program}
 
-pub rest_asked : (names : Names) (a : Attributes) (e : Tree) (es done : List Tree) (k : List Tree → Prog) → is_asked names a (holds_rest a) e ≡ true
-    → ask_rest names a (e ∷ es) done k ≡ Ask e (λ v. ask_rest names a es (done ++ v ∷ []) k)
-rest_asked names a e es done k h = ap (λ (b : Bool). elim b as (λ _. Prog) [ true ↦ Ask e (λ v. ask_rest names a es (done ++ v ∷ []) k) | false ↦ ask_rest names a es (done ++ e ∷ []) k ]) h
-
-pub rest_held : (names : Names) (a : Attributes) (e : Tree) (es done : List Tree) (k : List Tree → Prog) → is_asked names a (holds_rest a) e ≡ false
-    → ask_rest names a (e ∷ es) done k ≡ ask_rest names a es (done ++ e ∷ []) k
-rest_held names a e es done k h = ap (λ (b : Bool). elim b as (λ _. Prog) [ true ↦ Ask e (λ v. ask_rest names a es (done ++ v ∷ []) k) | false ↦ ask_rest names a es (done ++ e ∷ []) k ]) h
-
-pub first_asked : (names : Names) (a : Attributes) (e : Tree) (es : List Tree) (k : List Tree → Prog) → is_asked names a (holds_first a) e ≡ true
-    → ask_items names a (e ∷ es) k ≡ Ask e (λ v. ask_rest names a es (v ∷ []) k)
-first_asked names a e es k h = ap (λ (b : Bool). elim b as (λ _. Prog) [ true ↦ Ask e (λ v. ask_rest names a es (v ∷ []) k) | false ↦ ask_rest names a es (e ∷ []) k ]) h
-
-pub first_held : (names : Names) (a : Attributes) (e : Tree) (es : List Tree) (k : List Tree → Prog) → is_asked names a (holds_first a) e ≡ false
-    → ask_items names a (e ∷ es) k ≡ ask_rest names a es (e ∷ []) k
-first_held names a e es k h = ap (λ (b : Bool). elim b as (λ _. Prog) [ true ↦ Ask e (λ v. ask_rest names a es (v ∷ []) k) | false ↦ ask_rest names a es (e ∷ []) k ]) h
-
--- ---- parts that ask nothing
-
-pub evaluates_as : {set : Setting} {p q : (Tree → Prog) → Prog} (r : Result Tree Halt) → ((k : Tree → Prog) (ev : Evaluator) (st : State) → run set ev (p k) st ≡ run set ev (q k) st)
-    → Evaluates set q r → Evaluates set p r
-evaluates_as (Ok l) e h = record { by = λ k ev st. e k ev st ∙ h.by k ev st }
-evaluates_as (Err (Halt.Stopped c)) e h = record { by = λ k ev st. e k ev st ∙ h.by k ev st }
-evaluates_as (Err Halt.Quit) e h = absurd h.by
-evaluates_as (Err Halt.Closed) e h = absurd h.by
-evaluates_as (Err Halt.NoMemory) e h = record { by = tt }
-
-pub evaluates_halts : {set : Setting} (e : Tree) (p : (Tree → Prog) → Prog) (h : Halt) → HaltsFor set.limits e h → Evaluates set (λ k. Check e (p k)) (Err h)
-evaluates_halts {set = set} e p (Halt.Stopped c) h = record { by = λ k ev st. ap (λ x. unless_stopped x st (λ t. run set ev (p k) t)) h.by }
-evaluates_halts e p Halt.Quit h = absurd h.by
-evaluates_halts e p Halt.Closed h = absurd h.by
-evaluates_halts e p Halt.NoMemory h = record { by = tt }
-
-pub evaluates_fits : {set : Setting} (e : Tree) (p : (Tree → Prog) → Prog) (r : Result Tree Halt) → too_large set.limits e ≡ None → Evaluates set p r → Evaluates set (λ k. Check e (p k)) r
-evaluates_fits {set = set} e p r f h = evaluates_as r (λ k ev st. ap (λ x. unless_stopped x st (λ t. run set ev (p k) t)) f) h
-
 pub evaluated_goes : {set : Setting} {p : (Tree → Prog) → Prog} {l : Tree} (k : Tree → Prog) {d : Definitions} {used : Bool} → Evaluates set p (Ok l) → Leads set (p k) d used (k l) d used
 evaluated_goes k {d = d} {used = used} h = record { by = λ ev steps o. h.by k ev (state_at d used steps o) }
-
-pub evaluated_halts : {set : Setting} {p : (Tree → Prog) → Prog} (h : Halt) (k : Tree → Prog) {stay : Prog} {d : Definitions} {used : Bool} {rest : Option Tree → Prog} → Evaluates set p (Err h)
-    → Stepped set (p k) stay d used (Err h) rest d used
-evaluated_halts (Halt.Stopped c) k {d = d} {used = used} e = record { by = λ steps o. inl (λ ev. e.by k ev (state_at d used steps o)) }
-evaluated_halts Halt.Quit k e = absurd e.by
-evaluated_halts Halt.Closed k e = absurd e.by
-evaluated_halts Halt.NoMemory k e = record { by = λ steps o. tt }
 
 -- ---- the attributes of the head
 
@@ -73,24 +28,6 @@ attributes_seen set (integer n) k = record { by = λ ev steps o. refl }
 attributes_seen set (string t) k = record { by = λ ev steps o. refl }
 attributes_seen set (symbol s) k = record { by = λ ev steps o. refl }
 attributes_seen set (normal h es) k = record { by = λ ev steps o. refl }
-
--- ---- several checks
-
-pub checks_next : (set : Setting) (p : Prog) (es : List Tree) (i : ℕ) (e : Tree) → i < length es → e ≡ get_or es i e → too_large set.limits e ≡ None → (ev : Evaluator) (st : State)
-    → run set ev (check_all (drop i es) p) st ≡ run set ev (check_all (drop (i + 1) es) p) st
-checks_next set p es i e within is f ev st =
-    let one : i + 1 ≡ suc i = omega arith in
-    rw (one, drop-cons es i e within, sym is) (ap (λ x. unless_stopped x st (λ t. run set ev (check_all (drop (suc i) es) p) t)) f)
-
-pub checks_stop : (set : Setting) (p : Prog) (es : List Tree) (i : ℕ) (e : Tree) (c : Stop) → i < length es → e ≡ get_or es i e → too_large set.limits e ≡ Some c → (ev : Evaluator) (st : State)
-    → run set ev (check_all (drop i es) p) st ≡ Over (Stopped c) st
-checks_stop set p es i e c within is f ev st = rw (drop-cons es i e within, sym is) (ap (λ x. unless_stopped x st (λ t. run set ev (check_all (drop (suc i) es) p) t)) f)
-
-pub checks_all : (es : List Tree) (i : ℕ) (p : Prog) → length es ≤ i → check_all (drop i es) p ≡ p
-checks_all es i p past = ap (λ xs. check_all xs p) (drop_none es i past)
-  where
-    drop_none : (es : List Tree) (i : ℕ) → length es ≤ i → drop i es ≡ []
-    drop_none es i past = grind (arith, common_steps)
 
 -- ---- from one phase to the next
 

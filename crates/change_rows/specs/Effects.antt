@@ -2,18 +2,16 @@
 --     is_refused            a shared symbol that is no access, in an item
 --     Assigned              an assignment, up to what follows it
 --     Evaluates             a part that asks nothing and changes nothing, up to what follows it
-use Rattle.std.specs.Prelude.{◌≡◌, ℕ, List, [], ◌∷◌, Bool, true, false, ◌&&◌, not, Option, Result, Ok, Err}
+use Rattle.std.specs.Prelude.{◌≡◌, ℕ, List, Bool, true, false, Option, Result, Ok, Err}
 use Rattle.expr_tree.specs.declared.sym.Sym.{Sym}
 use Rattle.expr_tree.specs.Tree.{Tree}
-use Rattle.expr_tree.specs.Substitution.{among}
 use Rattle.semantics.specs.Assign.{Form}
-use Rattle.semantics.specs.Changes.{assign, without_left}
+use Rattle.semantics.specs.Changes.{assign}
 use Rattle.semantics.specs.Control.{failed}
-use Rattle.semantics.specs.Definitions.{Definitions, definition_of}
-use Rattle.semantics.specs.Names.{Names}
+use Rattle.semantics.specs.Definitions.{Definitions}
 use Rattle.evaluation_steps.specs.declared.Halt.{Halt}
 use Rattle.semantics.specs.Program.{Prog, Mode, Item}
-use Rattle.semantics.specs.Play.{Setting, Evaluator, State, Over, Stopped, run, written}
+use Rattle.semantics.specs.Play.{Setting, Evaluator, State, Over, Stopped, run}
 use Rattle.frame_steps.specs.Steps.{state_at}
 
 abbrev pub is_refused : Mode → Bool → Bool

@@ -2,9 +2,8 @@ use Rattle.std.proofs.Common.{arith}
 use Rattle.builtin_names.specs.Attributes.{attributes_in}
 use Rattle.builtin_names.specs.Named.{names_in}
 use Rattle.frame_steps.specs.Setup.{setting_of}
-use Rattle.semantics.specs.Assemble.{ask_rest}
 use Rattle.change_rows.specs.Assigning.{assembled, reached}
-use Rattle.change_rows.proofs.Going.{asks, goes_on, same_program}
+use Rattle.change_rows.proofs.Going.{asks, goes_on}
 use Rattle.change_rows.proofs.Sides.{falls_within, head_asks, items_asked, items_done}
 use Rattle.change_rows.proofs.assignment.Assignment.with_head.Goals as goal
 

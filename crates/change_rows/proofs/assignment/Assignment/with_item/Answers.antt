@@ -1,7 +1,6 @@
 use Rattle.std.proofs.Common.{arith, sym, ap, ◌∙◌}
 use Rattle.builtin_names.specs.Attributes.{attributes_in}
 use Rattle.builtin_names.specs.Named.{names_in}
-use Rattle.frame_steps.specs.Setup.{setting_of}
 use Rattle.semantics.specs.Assemble.{ask_rest}
 use Rattle.change_rows.specs.Assigning.{assembled, reached}
 use Rattle.change_rows.proofs.Going.{asks, goes_on, same_program}
