@@ -11,8 +11,6 @@ mod setting;
 mod shapes;
 mod source;
 mod take;
-#[cfg(test)]
-mod tests;
 mod turn;
 
 pub use found::{Found, Guard, Guards};

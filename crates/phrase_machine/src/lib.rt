@@ -20,8 +20,6 @@ mod reduce;
 mod stack;
 mod start;
 mod terminal;
-#[cfg(test)]
-mod tests;
 
 pub use kept::Kept;
 pub use machine::{Machine, Step};

@@ -1,7 +1,7 @@
 pub mod TextLemmas
 pub mod NameLemmas
-pub mod KeptLemmas
 pub mod LineLemmas
+pub mod EvalLemmas
 pub mod TranscriptLemmas
 pub mod WordLemmas
 pub mod WritingLemmas

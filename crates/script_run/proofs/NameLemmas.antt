@@ -15,7 +15,7 @@ use Rattle.syntax.specs.Tokens.{Kind, Token, lex, token_text, nonempty, blank_na
 use Rattle.lex_form.specs.Shapes.{AreTokens}
 use Rattle.lex_form.proofs.TokenShapes.{tokens_good}
 use Rattle.read_form.specs.Kept.{AreKeptNames}
-use Rattle.first_language.specs.Transcript.{written_names, texts_of}
+use Rattle.sequential_transcript.specs.Transcript.{written_names, texts_of}
 use Rattle.script_run.proofs.TextLemmas.{total, cells_total}
 
 -- ---- a cell has no more names than bytes

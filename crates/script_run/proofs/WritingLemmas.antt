@@ -6,7 +6,7 @@ use Rattle.std.specs.declared.option.Option.{Option}
 use Rattle.std.specs.Io.KnownBytes.{Appends}
 use Rattle.script_text.specs.Bytes.{all_joined}
 use Rattle.script_text.specs.Cells.{cells}
-use Rattle.first_language.specs.Transcript.{none}
+use Rattle.sequential_transcript.specs.Transcript.{none}
 use Rattle.script_run.specs.Promise.{Begins}
 use Rattle.script_run.proofs.TranscriptLemmas.{joined_more}
 
@@ -20,8 +20,8 @@ appends-more (Some us) None c xs ys first second = absurd first
 appends-more (Some us) (Some bs) None xs ys first second = absurd second
 appends-more (Some us) (Some bs) (Some cs) xs ys first second = second ∙ (ap (λ r. r ++ ys) first ∙ append_assoc us xs ys)
 
-pub begins_nothing : (script : List ℕ) → Begins script []
-begins_nothing script = ([], cells script, refl, none)
+pub begins_nothing : (steps : ℕ) (script : List ℕ) → Begins steps script []
+begins_nothing steps script = ([], cells script, refl, none)
 
 -- room for what was written and more
 none_more : (n : ℕ) → 0 + n ≡ n

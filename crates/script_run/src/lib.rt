@@ -4,12 +4,15 @@
 mod cell;
 mod cell_text;
 mod lines;
+mod outside;
 mod report;
 mod run;
 mod script_names;
+mod unbuilt;
+mod value;
 mod words;
 mod writing;
 
 pub use report::{Report, Status};
 pub use run::run_alone;
-pub use words::are_read;
+pub use words::steps_of;

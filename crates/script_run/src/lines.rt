@@ -4,7 +4,7 @@ ghost use Rattle.script_text.specs.Laws.{IsKept};
 ghost use Rattle.script_text.specs.Spelling.{by_texts};
 ghost use Rattle.builtin_names.specs.Named.{HasBuiltins, names_in};
 ghost use Rattle.syntax.specs.Lines.{numbered_line, out_line, syntax_line};
-ghost use Rattle.first_language.specs.Transcript.{unbuilt_line};
+ghost use Rattle.sequential_transcript.specs.Transcript.{unbuilt_line};
 
 use builtin_names::is_name;
 use expr_tree::{Expr, Text};

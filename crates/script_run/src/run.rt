@@ -3,7 +3,7 @@ ghost use Rattle.std.specs.Prelude.{◌≡◌, ◌≤◌, map, string_bytes};
 ghost use Rattle.script_run.specs.Promise.{Completes, Ends, Runs};
 
 use crate::report::{Report, Status};
-use crate::words::are_read;
+use crate::words::steps_of;
 use crate::writing::run_script;
 use port_io::{ReadNo, Sink, Source, read_all};
 use std::alloc::Global;
@@ -31,15 +31,15 @@ pub fn run_alone<S: Source, K: Sink>(
     ensures read_counted { S.faults source.old ≤ S.faults source.new }
     ensures write_counted { K.faults sink.old ≤ K.faults sink.new }
 {
-    if !are_read(words) {
+    let Some(steps) = steps_of(words) else {
         return Report {
             status: Status::Usage,
         };
-    }
+    };
     match read_all(alloc, source, LIMIT) {
         Ok(bytes) => match str::from_utf8(bytes.as_slice()) {
             Ok(script) => Report {
-                status: run_script(alloc, script, sink),
+                status: run_script(alloc, steps, script, sink),
             },
             Err(_) => Report {
                 status: Status::NotText,
@@ -56,6 +56,3 @@ pub fn run_alone<S: Source, K: Sink>(
         },
     }
 }
-
-#[cfg(test)]
-mod tests;

@@ -4,7 +4,7 @@ ghost use Rattle.script_text.specs.Cells.{cells};
 ghost use Rattle.syntax.specs.Tokens as syn;
 ghost use Rattle.builtin_names.specs.Named.{HasBuiltins};
 ghost use Rattle.lex_form.specs.Spans.{texts_of as span_texts};
-ghost use Rattle.first_language.specs.Transcript.{texts_of, written_names};
+ghost use Rattle.sequential_transcript.specs.Transcript.{texts_of, written_names};
 ghost use Rattle.script_run.specs.Cells.{AreCellSpans};
 
 use crate::cell_text::cell_text;

@@ -3,7 +3,7 @@ ghost use Rattle.std.specs.Prelude.{◌≡◌, ◌≢◌, ◌≤◌, length};
 ghost use Rattle.script_text.specs.Cells.{cells};
 ghost use Rattle.builtin_names.specs.Named.{HasBuiltins};
 ghost use Rattle.lex_form.specs.Spans.{texts_of as span_texts};
-ghost use Rattle.first_language.specs.Transcript.{texts_of};
+ghost use Rattle.sequential_transcript.specs.Transcript.{texts_of};
 ghost use Rattle.script_run.specs.Cells.{AreCellSpans};
 ghost use Rattle.script_run.specs.Promise.{Writes, TakesAll};
 
@@ -11,7 +11,7 @@ use crate::cell::run_cell;
 use crate::cell_text::cell_text;
 use crate::report::Status;
 use crate::script_names::names_of_script;
-use first_values::OwnValues;
+use crate::value::first_definitions;
 use lex_form::{Spans, cells};
 use name_table::Names;
 use port_io::{Failed, Sink};
@@ -22,6 +22,7 @@ use std::alloc::Global;
 fn write_cells<K: Sink>(
     alloc: Global,
     names: &Names,
+    steps: u64,
     script: &str,
     spans: &Spans,
     sink: &mut K,
@@ -31,14 +32,16 @@ fn write_cells<K: Sink>(
     requires cells { span_texts script.now spans.now ≡ cells script.now }
     requires texts { names.now.texts ≡ texts_of (cells script.now) }
     requires names { HasBuiltins names.now }
-    ensures written { Writes (K.held sink.old) (K.held sink.new) (K.faults sink.old) (K.faults sink.new) script.now result }
+    ensures written { Writes (K.held sink.old) (K.held sink.new) (K.faults sink.old) (K.faults sink.new) steps script.now result }
     ensures counted { K.faults sink.old ≤ K.faults sink.new }
-    ensures sure { TakesAll (K.takes sink.old) script.now → result ≢ Status.WriteFault }
+    ensures sure { TakesAll (K.takes sink.old) steps script.now → result ≢ Status.WriteFault }
 {
-    let mut own = OwnValues::new(alloc);
+    let Ok(mut defs) = first_definitions(alloc) else {
+        return Status::NoMemory;
+    };
     for (at, span) in spans.as_slice().iter().enumerate() {
         let cell = cell_text(script, *span);
-        let Ok(line) = run_cell(alloc, names, &mut own, at as u64 + 1, cell) else {
+        let Ok(line) = run_cell(alloc, names, steps, &mut defs, at as u64 + 1, cell) else {
             return Status::NoMemory;
         };
         match sink.write_all(line.as_str().as_bytes()) {
@@ -51,17 +54,17 @@ fn write_cells<K: Sink>(
 
 /// Runs a script, and writes its transcript.
 #[tactic(auto, using(crate::proofs::WritingLemmas::writing_steps, crate::proofs::TextLemmas::cell_spans))]
-pub(crate) fn run_script<K: Sink>(alloc: Global, script: &str, sink: &mut K) -> Status
+pub(crate) fn run_script<K: Sink>(alloc: Global, steps: u64, script: &str, sink: &mut K) -> Status
     requires { length script.now ≤ 1048576 }
-    ensures written { Writes (K.held sink.old) (K.held sink.new) (K.faults sink.old) (K.faults sink.new) script.now result }
+    ensures written { Writes (K.held sink.old) (K.held sink.new) (K.faults sink.old) (K.faults sink.new) steps script.now result }
     ensures counted { K.faults sink.old ≤ K.faults sink.new }
-    ensures sure { TakesAll (K.takes sink.old) script.now → result ≢ Status.WriteFault }
+    ensures sure { TakesAll (K.takes sink.old) steps script.now → result ≢ Status.WriteFault }
 {
     let Ok(spans) = cells(alloc, script) else {
         return Status::NoMemory;
     };
     match names_of_script(alloc, script, &spans) {
-        Ok(names) => write_cells(alloc, &names, script, &spans, sink),
+        Ok(names) => write_cells(alloc, &names, steps, script, &spans, sink),
         Err(_) => Status::NoMemory,
     }
 }

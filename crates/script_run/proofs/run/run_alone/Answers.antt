@@ -12,7 +12,8 @@ returns-in-Ok-from_utf8-clause-outcome g c =
     let same : c.in-Ok-from_utf8.script.now ≡ c.in-Ok.bytes = c.in-Ok-from_utf8.ensures.cases.0 ∙ c.as_slice.ensures in
     let whole = subst (λ b. IsWhole left rest b) (sym same) (whole_read left rest (g.S.Source.faults c.args.source.now) (g.S.Source.faults c.read_all.new.source) c.in-Ok.bytes c.in-Ok.ensures.bytes) in
     let text = subst IsUtf8 (sym c.in-Ok-from_utf8.ensures.cases.0) c.in-Ok-from_utf8.ensures.cases.1 in
-    runs_written (map (string_bytes {Z = Global}) c.args.words.now) _ _ c.in-Ok-from_utf8.script.now c.run_script.result c.if-not-are_read.ensures whole text c.run_script.ensures.written
+    let given = sym c.steps_of.ensures ∙ c.in-Some.is in
+    runs_written (map (string_bytes {Z = Global}) c.args.words.now) _ _ c.in-Some.steps c.in-Ok-from_utf8.script.now c.run_script.result given whole text c.run_script.ensures.written
 
 pub returns-in-Ok-from_utf8-clause-complete : goal.returns-in-Ok-from_utf8-clause-complete
 returns-in-Ok-from_utf8-clause-complete g c =
@@ -20,6 +21,7 @@ returns-in-Ok-from_utf8-clause-complete g c =
     let rest = g.S.Source.left c.read_all.new.source in
     let same : c.in-Ok-from_utf8.script.now ≡ c.in-Ok.bytes = c.in-Ok-from_utf8.ensures.cases.0 ∙ c.as_slice.ensures in
     let whole = subst (λ b. IsWhole left rest b) (sym same) (whole_read left rest (g.S.Source.faults c.args.source.now) (g.S.Source.faults c.read_all.new.source) c.in-Ok.bytes c.in-Ok.ensures.bytes) in
+    let given = sym c.steps_of.ensures ∙ c.in-Some.is in
     complete_run (map (string_bytes {Z = Global}) c.args.words.now) left rest (g.S.Source.never_fails c.args.source.now) (g.K.Sink.takes c.args.sink.now) (g.K.Sink.held c.args.sink.now)
-    (g.K.Sink.held c.run_script.new.sink) (g.K.Sink.faults c.args.sink.now) (g.K.Sink.faults c.run_script.new.sink) c.in-Ok-from_utf8.script.now c.run_script.result whole c.run_script.ensures.written
+    (g.K.Sink.held c.run_script.new.sink) (g.K.Sink.faults c.args.sink.now) (g.K.Sink.faults c.run_script.new.sink) c.in-Some.steps c.in-Ok-from_utf8.script.now c.run_script.result given whole c.run_script.ensures.written
     c.run_script.ensures.sure

@@ -1,5 +1,5 @@
 use Rattle.std.proofs.Common.{ap, length, ◌∙◌, arith}
-use Rattle.first_language.specs.Transcript.{written_names}
+use Rattle.sequential_transcript.specs.Transcript.{written_names}
 use Rattle.script_run.proofs.NameLemmas.{names_fit}
 use Rattle.script_run.proofs.script_names.names_of_script.Goals as goal
 

@@ -1,6 +1,6 @@
 use Rattle.std.proofs.Common.{◌≡◌, ◌++◌, map, drop}
 use Rattle.lex_form.specs.Spans.{span_text}
-use Rattle.first_language.specs.Transcript.{written_names}
+use Rattle.sequential_transcript.specs.Transcript.{written_names}
 use Rattle.script_run.specs.Cells.{AreCellSpans}
 use Rattle.script_run.proofs.script_names.written_names.Given as goal
 

@@ -3,6 +3,7 @@ use Rattle.std.specs.Io.KnownBytes.{Appends}
 use Rattle.script_text.specs.Bytes.{all_joined}
 use Rattle.script_text.specs.Cells.{cells}
 use Rattle.lex_form.specs.Spans.{span_text}
+use Rattle.kept_laws.specs.Kept.{AreKeptIn}
 use Rattle.script_run.specs.Cells.{AreCellSpans}
 use Rattle.script_run.proofs.NameLemmas.{AreKeptCells}
 use Rattle.script_run.proofs.TranscriptLemmas.{AreSoFar}
@@ -14,9 +15,10 @@ invariant-loop-at g l =
     let K = g.K.Sink in
     let rest = map (span_text l.script) (drop l.at l.spans) in
     record {
-      lines : (lines : List (List ℕ)) × AreSoFar l.names.texts (cells l.script) rest l.own (l.at + 1) lines × Appends (K.held l.fn.sink) (K.held l.sink) (all_joined lines)
+      lines : (lines : List (List ℕ)) × AreSoFar l.names.texts (cells l.script) l.steps rest l.defs (l.at + 1) lines × Appends (K.held l.fn.sink) (K.held l.sink) (all_joined lines)
           × ((more : ℕ) → K.takes l.fn.sink (length (all_joined lines) + more) → K.takes l.sink more);
       spans : AreCellSpans l.script (drop l.at l.spans);
       kept : AreKeptCells l.names.texts rest;
+      defined : AreKeptIn (length l.names.texts) l.defs;
       counted : K.faults l.fn.sink ≤ K.faults l.sink;
     }

@@ -1,0 +1,73 @@
+-- What the evaluator says of a cell that is evaluated alone.
+use Rattle.std.proofs.Common.{◌≡◌, refl, sym, ◌∙◌, subst, ℕ, ◌<◌, false, List, [], length}
+use Rattle.expr_tree.specs.Tree.{Tree}
+use Rattle.expr_tree.specs.declared.limits.Limits.{Limits}
+use Rattle.expr_tree.specs.declared.limits.Stop.{Stop}
+use Rattle.script_text.specs.Laws.{IsKept}
+use Rattle.script_text.specs.Spelling.{by_texts}
+use Rattle.name_table.specs.Table.{NameTable}
+use Rattle.semantics.specs.declared.builtin.Builtin.{Builtin}
+use Rattle.semantics.specs.Definitions.{Definitions, empty}
+use Rattle.semantics.specs.Program.{Cell}
+use Rattle.semantics.specs.Play.{Setting, State, End, Value, Stopped}
+use Rattle.semantics.specs.Eval.{Event, Ended, eval}
+use Rattle.builtin_names.specs.Named.{HasBuiltins, names_in}
+use Rattle.evaluation_steps.specs.Explain.{EndsAs}
+use Rattle.frame_steps.specs.Setup.{shown_by}
+use Rattle.eval_seq.specs.Told.{Says}
+use Rattle.eval_seq.specs.declared.call.Outcome.{Outcome}
+use Rattle.kept_laws.specs.Kept.{AreKeptIn, IsKeptOutcome, StaysKept}
+use Rattle.kept_laws.proofs.Stay.{bases_stay}
+use Rattle.sequential_transcript.specs.Transcript.{shown_in, limits_of, alone}
+use Rattle.script_run.proofs.LineLemmas.{rows_kept}
+
+pub first_kept : (count : ℕ) → AreKeptIn count empty
+first_kept count = record { entries = tt; shared = tt; named = tt }
+
+pub shown_alike : (table : NameTable) → shown_by table ≡ shown_in (by_texts table.texts) (names_in table)
+unfolding shown_by shown_in names_in
+shown_alike table = refl
+
+-- an evaluation to which mode and kernel did not matter ends so without a call, and keeps the bases
+pub record EndsAlone (set : Setting) (count : ℕ) (d : Definitions) (e : Tree) (o : End) (after : Definitions) : Type 0 where
+  pub outcome : (eval set d e []).outcome ≡ Ended o
+  pub definitions : (eval set d e []).definitions ≡ after
+  pub kept : IsKeptOutcome count (Ended o)
+  pub kept_after : AreKeptIn count after
+
+pub ends_alone : (set : Setting) (count : ℕ) → ((row : Builtin) → set.names.place row < count) → (d : Definitions) (e : Tree) (events : List Event) (o : End) (st : State)
+    → AreKeptIn count d → IsKept count e → EndsAs (eval set d e events) o st → st.used ≡ false → EndsAlone set count d e o st.definitions
+ends_alone set count rows d e events o st defined kept ends unused =
+    let stays : StaysKept count events (eval set d e events) = bases_stay set count rows d e events defined kept (ends.used ∙ unused) in
+    let none : events ≡ [] = sym stays.no_call ∙ ends.rest in
+    record {
+      outcome = subst (λ es. (eval set d e es).outcome ≡ Ended o) none ends.outcome;
+      definitions = subst (λ es. (eval set d e es).definitions ≡ st.definitions) none ends.definitions;
+      kept = subst (IsKeptOutcome count) ends.outcome stays.value;
+      kept_after = subst (AreKeptIn count) ends.definitions stays.definitions;
+    }
+
+-- ---- what the evaluator says
+
+module _ (table : NameTable) (h : HasBuiltins table) (steps : ℕ) (limits : Limits) (same : limits ≡ limits_of steps) where
+  abbrev told : Setting
+  told = record { names = names_in table; shown = shown_by table; mode = Cell; kernel = 0; limits = limits }
+
+  abbrev set : Setting
+  set = alone (by_texts table.texts) (names_in table) steps
+
+  told_is : told ≡ set
+  told_is = λ i. record { names = names_in table; shown = shown_alike table i; mode = Cell; kernel = 0; limits = same i }
+
+  ended : (d : Definitions) (e : Tree) (events : List Event) (o : End) (st : State) → AreKeptIn (length table.texts) d → IsKept (length table.texts) e
+      → EndsAs (eval told d e events) o st → st.used ≡ false → EndsAlone set (length table.texts) d e o st.definitions
+  ended d e events o st defined kept ends unused =
+      subst (λ s. EndsAlone s (length table.texts) d e o st.definitions) told_is (ends_alone told (length table.texts) (rows_kept table h) d e events o st defined kept ends unused)
+
+  pub ended_by_value : (d : Definitions) (e : Tree) (events : List Event) (outcome : Outcome) (v : Tree) (st : State) → AreKeptIn (length table.texts) d → IsKept (length table.texts) e
+      → outcome ≡ Outcome.Value v → Says told (eval told d e) events outcome st → st.used ≡ false → EndsAlone set (length table.texts) d e (Value v) st.definitions
+  ended_by_value d e events outcome v st defined kept is says unused = ended d e events (Value v) st defined kept (subst (λ o. Says told (eval told d e) events o st) is says) unused
+
+  pub ended_by_stop : (d : Definitions) (e : Tree) (events : List Event) (outcome : Outcome) (cause : Stop) (st : State) → AreKeptIn (length table.texts) d → IsKept (length table.texts) e
+      → outcome ≡ Outcome.Stopped cause → Says told (eval told d e) events outcome st → st.used ≡ false → EndsAlone set (length table.texts) d e (Stopped cause) st.definitions
+  ended_by_stop d e events outcome cause st defined kept is says unused = ended d e events (Stopped cause) st defined kept (subst (λ o. Says told (eval told d e) events o st) is says) unused

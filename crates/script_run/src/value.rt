@@ -1,0 +1,121 @@
+//! The value of a cell.
+ghost use Rattle.std.specs.Prelude.{◌≡◌, ◌≤◌, length, [], Some, IfOk};
+ghost use Rattle.expr_tree.specs.Tree.{depth};
+ghost use Rattle.script_text.specs.Laws.{IsKept};
+ghost use Rattle.script_text.specs.Spelling.{by_texts, place_in};
+ghost use Rattle.semantics.specs.Definitions.{empty};
+ghost use Rattle.semantics.specs.Eval as sem;
+ghost use Rattle.syntax.specs.Leaves.{lexemes};
+ghost use Rattle.builtin_names.specs.Named.{HasBuiltins, names_in};
+ghost use Rattle.kept_laws.specs.Kept.{AreKeptIn, IsKeptValue};
+ghost use Rattle.sequential_transcript.specs.Transcript.{limits_of, alone, ran, value_in};
+ghost use Rattle.script_run.specs.Cells.{has_some};
+
+use crate::outside::NoOutside;
+use crate::unbuilt::has_unbuilt;
+use builtin_names::name;
+use eval_seq::{Context, Defs, Ended, Mode, Outcome, eval};
+use expr_tree::{Expr, Limits};
+use lex_form::lex;
+use name_table::Names;
+use semantics::Builtin;
+use std::alloc::{AllocError, Global};
+
+/// The definitions before the first cell.
+pub(crate) fn first_definitions(alloc: Global) -> Result<Defs, AllocError>
+    ensures { IfOk result (λ d. d ≡ empty) }
+{
+    Defs::new(alloc)
+}
+
+/// The limits of each cell.
+fn limits_of(steps: u64) -> Limits
+    ensures { result ≡ limits_of steps }
+{
+    Limits {
+        recursion: 256,
+        iteration: 4096,
+        steps,
+        size: 4_000_000,
+        depth: 512,
+    }
+}
+
+/// Whether a cell has a token.
+fn has_token(alloc: Global, cell: &str) -> Result<bool, AllocError>
+    ensures { IfOk result (λ some. some ≡ has_some (lexemes cell.now)) }
+{
+    let lexed = lex(alloc, cell)?;
+    Ok(!lexed.tokens.is_empty())
+}
+
+/// An expression is at most 512 deep.
+fn is_within_depth(e: &Expr)
+    ensures { depth e.now ≤ 512 }
+{
+    let _ = e.depth();
+}
+
+/// The value of an expression that is evaluated alone; `$Aborted` where it stops. Where mode or kernel mattered, a call was needed, or
+/// something that is not built was met, though no name of it stands in the cell, there is no answer but that of want of memory.
+fn evaluated(
+    alloc: Global,
+    names: &Names,
+    steps: u64,
+    defs: &mut Defs,
+    e: &Expr,
+) -> Result<Expr, AllocError>
+    requires names { HasBuiltins names.now }
+    requires kept { IsKept (length names.now.texts) e.now }
+    requires kept_before { AreKeptIn (length names.now.texts) defs.old }
+    ensures value { IfOk result (λ v. Some v ≡ value_in (names_in names.now) (sem.eval (alone (by_texts names.now.texts) (names_in names.now) steps) defs.old e.now []).outcome) }
+    ensures definitions { IfOk result (λ v. defs.new ≡ (sem.eval (alone (by_texts names.now.texts) (names_in names.now) steps) defs.old e.now []).definitions) }
+    ensures kept { IfOk result (λ v. IsKept (length names.now.texts) v) }
+    ensures kept_after { IfOk result (λ v. AreKeptIn (length names.now.texts) defs.new) }
+{
+    let context = Context {
+        names,
+        mode: Mode::Cell,
+        kernel: 0,
+    };
+    let mut outside = NoOutside {};
+    let ended = eval(alloc, &context, &limits_of(steps), defs, &mut outside, e);
+    if ended.used {
+        return Err(AllocError);
+    }
+    match ended.outcome {
+        Outcome::Value(value) => Ok(value),
+        Outcome::Stopped(_) => Ok(name(names, Builtin::Aborted)),
+        Outcome::Quit | Outcome::Closed | Outcome::NoMemory | Outcome::Unbuilt(_) => {
+            Err(AllocError)
+        }
+    }
+}
+
+/// The value of a cell that is read, if it is built. A cell without tokens is its own value.
+#[tactic(auto, using(crate::proofs::TranscriptLemmas::value_steps))]
+pub(crate) fn value_of(
+    alloc: Global,
+    names: &Names,
+    steps: u64,
+    defs: &mut Defs,
+    cell: &str,
+    e: Expr,
+) -> Result<Option<Expr>, AllocError>
+    requires names { HasBuiltins names.now }
+    requires kept { IsKept (length names.now.texts) e }
+    requires kept_before { AreKeptIn (length names.now.texts) defs.old }
+    ensures value { IfOk result (λ v. v ≡ (ran (by_texts names.now.texts) (names_in names.now) (place_in names.now.texts) steps defs.old (lexemes cell.now) e).value) }
+    ensures definitions { IfOk result (λ v. defs.new ≡ (ran (by_texts names.now.texts) (names_in names.now) (place_in names.now.texts) steps defs.old (lexemes cell.now) e).definitions) }
+    ensures kept { IfOk result (λ v. IsKeptValue (length names.now.texts) v) }
+    ensures kept_after { IfOk result (λ v. AreKeptIn (length names.now.texts) defs.new) }
+{
+    if !has_token(alloc, cell)? {
+        return Ok(Some(e));
+    }
+    is_within_depth(&e);
+    if has_unbuilt(names, &e) {
+        return Ok(None);
+    }
+    Ok(Some(evaluated(alloc, names, steps, defs, &e)?))
+}

@@ -1,0 +1,15 @@
+//! Worked scripts with their transcripts, each run as the program runs it. There is no code here but tests.
+#![tactic(auto)]
+
+#[cfg(test)]
+mod edges;
+#[cfg(test)]
+mod nesting;
+#[cfg(test)]
+mod page;
+#[cfg(test)]
+mod row;
+#[cfg(test)]
+mod run;
+#[cfg(test)]
+mod scripts;
