@@ -15,6 +15,8 @@ use Rattle.change_rows.specs.Left as change
 use Rattle.iterator_frames.specs.Rows.{is_iteration}
 use Rattle.replacing_frames.specs.Left.{is_replacing}
 use Rattle.replacing_frames.specs.Left as replacing
+use Rattle.rewrite_frames.specs.Left.{is_rewriting}
+use Rattle.rewrite_frames.specs.Left as rewriting
 use Rattle.iterator_frames.specs.Left as iteration
 use Rattle.row_frames.specs.Asking.{asks}
 use Rattle.row_frames.specs.Rows.{left_module, left_block, left_rules}
@@ -39,7 +41,7 @@ has_form Builtin.With = true
 has_form _ = false
 
 abbrev pub has_frame : Builtin → Bool
-has_frame row = has_form row || (is_change row || (is_iteration row || is_replacing row))
+has_frame row = has_form row || (is_change row || (is_iteration row || (is_replacing row || is_rewriting row)))
 
 abbrev pub left : Names → Frame → Prog → Option Tree → Prog
 left names (Frame.Control f) stay answer = control.left names f answer
@@ -50,6 +52,7 @@ left names (Frame.Rules a) stay answer = left_rules names a stay answer
 left names (Frame.Iteration f) stay answer = iteration.left names f stay answer
 left names (Frame.Change f) stay answer = change.left names f stay answer
 left names (Frame.Replacing f) stay answer = replacing.left names f stay answer
+left names (Frame.Rewriting f) stay answer = rewriting.left names f stay answer
 
 abbrev pub questions : Names → Frame → Option Tree → ℕ
 questions names (Frame.Control f) answer = control.questions f
@@ -60,3 +63,4 @@ questions names (Frame.Rules a) answer = rules.questions names a answer
 questions names (Frame.Iteration f) answer = iteration.questions f
 questions names (Frame.Change f) answer = change.questions names f answer
 questions names (Frame.Replacing f) answer = replacing.questions names f answer
+questions names (Frame.Rewriting f) answer = rewriting.questions names f answer

@@ -12,7 +12,7 @@ ghost use Rattle.row_frames.specs.Frames.{has_form, has_frame, left, questions};
 use crate::block_row::BlockRow;
 use crate::control_row::{start_control, step_control};
 use crate::module_row::ModuleRow;
-use crate::other_rows::{changing, iterating, replacing};
+use crate::other_rows::{changing, iterating, replacing, rewriting};
 use crate::rule_trial::step_rules;
 use crate::with_row::{start_with, step_with};
 use change_rows::Change;
@@ -25,6 +25,7 @@ use iterator_frames::Iteration;
 use kernel_defs::Defs;
 use name_table::Names;
 use replacing_frames::Replacing;
+use rewrite_frames::Rewriting;
 use rule_frames::Attempt;
 use rule_store::Rule;
 use semantics::Builtin;
@@ -41,6 +42,7 @@ pub enum Frame {
     Iteration(Iteration),
     Change(Change),
     Replacing(Replacing),
+    Rewriting(Rewriting),
 }
 
 /// The machine of a control form or of a scoping form.
@@ -97,8 +99,11 @@ impl Frame {
         if let Some(started) = iterator_frames::start(alloc, names, row, items) {
             return Some(iterating(started));
         }
-        match replacing_frames::start(alloc, names, row, items) {
-            Some(started) => Some(replacing(started)),
+        if let Some(started) = replacing_frames::start(alloc, names, row, items) {
+            return Some(replacing(started));
+        }
+        match rewrite_frames::start(alloc, names, row, items) {
+            Some(started) => Some(rewriting(started)),
             None => None,
         }
     }
@@ -130,6 +135,7 @@ impl Frame {
             Frame::Iteration(form) => form.step(scene, defs, used, answer),
             Frame::Change(row) => row.step(scene, defs, used, answer),
             Frame::Replacing(row) => row.step(scene, defs, used, answer),
+            Frame::Rewriting(row) => row.step(scene, defs, used, answer),
         }
     }
 }

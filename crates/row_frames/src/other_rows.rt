@@ -5,12 +5,14 @@ ghost use Rattle.frame_steps.specs.Steps.{Starts};
 ghost use Rattle.change_rows.specs.Left as change;
 ghost use Rattle.iterator_frames.specs.Left as iteration;
 ghost use Rattle.replacing_frames.specs.Left as replacing;
+ghost use Rattle.rewrite_frames.specs.Left as rewriting;
 ghost use Rattle.row_frames.specs.Frames as f;
 
 use crate::frame::Frame;
 use change_rows::Change;
 use iterator_frames::Iteration;
 use replacing_frames::Replacing;
+use rewrite_frames::Rewriting;
 use std::alloc::AllocError;
 
 /// A form with an iterator.
@@ -47,6 +49,19 @@ pub(crate) fn replacing(
 {
     match started {
         Ok(Some(row)) => Ok(Some(Frame::Replacing(row))),
+        Ok(None) => Ok(None),
+        Err(error) => Err(error),
+    }
+}
+
+/// A row that replaces parts of an expression.
+pub(crate) fn rewriting(
+    started: Result<Option<Rewriting>, AllocError>,
+) -> Result<Option<Frame>, AllocError>
+    ensures { (names : n.Names) (p : Prog → Prog) → Starts (rewriting.left names) p started → Starts (f.left names) p result }
+{
+    match started {
+        Ok(Some(row)) => Ok(Some(Frame::Rewriting(row))),
         Ok(None) => Ok(None),
         Err(error) => Err(error),
     }

@@ -1,5 +1,5 @@
 -- Which expressions have a name whose row is not built.
---     is_unbuilt           the rows that are not built: those that need other kernels, shared symbols or an outside, and four more
+--     is_unbuilt           the rows that are not built: those that need other kernels, shared symbols or an outside
 --     has_unbuilt          whether the name of one stands in an expression
 use Rattle.std.specs.Prelude.{Bool, true, false, ◌||◌, Some, None}
 use Rattle.expr_tree.specs.Tree.{Tree, Trees, integer, string, symbol, normal, nil, cons}
@@ -26,10 +26,6 @@ is_unbuilt Builtin.Print = true
 is_unbuilt Builtin.Quit = true
 is_unbuilt Builtin.KernelID = true
 is_unbuilt Builtin.KernelCount = true
-is_unbuilt Builtin.Unset = true
-is_unbuilt Builtin.ReplaceAll = true
-is_unbuilt Builtin.ReplaceRepeated = true
-is_unbuilt Builtin.Cases = true
 is_unbuilt _ = false
 
 abbrev pub names_unbuilt : Names → Sym → Bool

@@ -10,3 +10,6 @@ returns-in-Some-start-2-clause-starts c = c.iterating.ensures (names_in c.args.n
 
 pub returns-in-Some-start-3-clause-starts : goal.returns-in-Some-start-3-clause-starts
 returns-in-Some-start-3-clause-starts c = c.replacing.ensures (names_in c.args.names.now) (λ stay. t.row (names_in c.args.names.now) c.args.row stay c.args.items.now) c.in-Some-start-3.ensures.started
+
+pub returns-in-Some-start-4-clause-starts : goal.returns-in-Some-start-4-clause-starts
+returns-in-Some-start-4-clause-starts c = c.rewriting.ensures (names_in c.args.names.now) (λ stay. t.row (names_in c.args.names.now) c.args.row stay c.args.items.now) c.in-Some-start-4.ensures.started

@@ -41,3 +41,8 @@ pub returns-in-Replacing-clause-stepped : goal.returns-in-Replacing-clause-stepp
 returns-in-Replacing-clause-stepped c = λ stay.
     let is : c.args.self.now ≡ Frame.Replacing c.in-Replacing.row = cc in
     rw is (c.step-in-Replacing.ensures.stepped stay)
+
+pub returns-in-Rewriting-clause-stepped : goal.returns-in-Rewriting-clause-stepped
+returns-in-Rewriting-clause-stepped c = λ stay.
+    let is : c.args.self.now ≡ Frame.Rewriting c.in-Rewriting.row = cc in
+    rw is (c.step-in-Rewriting.ensures.stepped stay)
