@@ -1,0 +1,4 @@
+pub mod Beyond
+pub mod View
+pub mod Falls
+pub mod Judged
