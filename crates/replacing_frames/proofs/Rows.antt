@@ -1,13 +1,16 @@
 -- The rows that ask whether a pattern matches, by its rule.
-use Rattle.std.proofs.Common.{◌≡◌, ◌∙◌, ℕ, suc, List, [], ◌∷◌, true, false, refl, ap, sym, add-one, ◌++◌, append_assoc, append-nil}
+use Rattle.std.proofs.Common.{◌≡◌, ◌∙◌, ℕ, suc, List, [], ◌∷◌, true, false, refl, ap, sym, add-one, ◌++◌, append_assoc, append-nil, reverse}
+use Rattle.std.proofs.lemmas.List.{reverse-append}
 use Rattle.expr_tree.specs.Tree.{Tree, integer, string, symbol, normal, Trees, nil, cons}
 use Rattle.expr_tree.proofs.Callers.{tree_steps}
 use Rattle.semantics.specs.Names.{Names, truth}
 use Rattle.semantics.specs.Attempt.{try_rules}
 use Rattle.semantics.specs.Program.{Prog, Done}
-use Rattle.semantics.specs.Replace.{asks, member, count_of, free, free_items}
+use Rattle.semantics.specs.Rule.{Rule}
+use Rattle.semantics.specs.Replace.{asks, member, count_of, free, free_items, matching, cases_of}
 use Rattle.replacing_frames.specs.Parts.{parts, parts_in}
-use Rattle.replacing_frames.specs.Walks.{first_of, counted}
+use Rattle.replacing_frames.specs.declared.tally.Pick.{Pick}
+use Rattle.replacing_frames.specs.Walks.{first_of, counted, gathered}
 
 pub members : (names : Names) (p : Tree) (es : List Tree) → member names p es ≡ first_of names (asks names p) (Done (truth names true)) (Done (truth names false)) es
 members names p [] = refl
@@ -17,6 +20,19 @@ pub counts : (names : Names) (p : Tree) (es : List Tree) (n : ℕ) → count_of 
 counts names p [] n = refl
 counts names p (e ∷ es) n =
     λ i. try_rules names (asks names p) e (λ v. (counts names p es (suc n) ∙ ap (counted names (asks names p) es) (sym (add-one n))) i) (counts names p es n i)
+
+-- what was found first stands last in the definition
+pub subjects : (names : Names) (p h : Tree) (es done : List Tree) → matching names h p es done ≡ gathered names (asks names p) Pick.Subject h es (reverse done)
+subjects names p h [] done = refl
+subjects names p h (e ∷ es) done =
+    λ i. try_rules names (asks names p) e
+    (λ v. (subjects names p h es (e ∷ done) ∙ ap (gathered names (asks names p) Pick.Subject h es) (reverse-append (e ∷ []) done)) i)
+    (subjects names p h es done i)
+
+pub results : (names : Names) (rs : List Rule) (h : Tree) (es done : List Tree) → cases_of names h rs es done ≡ gathered names rs Pick.Result h es (reverse done)
+results names rs h [] done = refl
+results names rs h (e ∷ es) done =
+    λ i. try_rules names rs e (λ v. (results names rs h es (v ∷ done) ∙ ap (gathered names rs Pick.Result h es) (reverse-append (v ∷ []) done)) i) (results names rs h es done i)
 
 -- ---- all parts
 

@@ -3,6 +3,7 @@ use Rattle.std.proofs.Common.{◌≡◌, ◌∙◌, List, [], ◌∷◌, Option,
 use Rattle.std.specs.declared.alloc.AllocError.{AllocError}
 use Rattle.frame_steps.specs.Steps.{Starts}
 use Rattle.replacing_frames.specs.declared.replacing.Replacing.{Replacing}
+use Rattle.replacing_frames.specs.declared.tally.Pick.{Pick}
 use Rattle.replacing_frames.specs.declared.tally.Tally.{Tally}
 use Rattle.replacing_frames.specs.Left.{left, left_machine, walking}
 use Rattle.expr_tree.specs.Shapes.{pair_of}
@@ -11,10 +12,11 @@ use Rattle.expr_tree.proofs.Trees.{elements-trees}
 use Rattle.semantics.specs.Names.{Names, truth}
 use Rattle.semantics.specs.Rule.{Rule}
 use Rattle.semantics.specs.Program.{Prog, Done}
-use Rattle.semantics.specs.Replace.{asks, match_q, member_q, count_row, free_q}
+use Rattle.semantics.specs.Replace.{asks, match_q, member_q, count_row, free_q, case_rule, matching, cases_of, cases}
 use Rattle.replacing_frames.specs.Parts.{parts}
-use Rattle.replacing_frames.specs.Walks.{first_of, counted}
-use Rattle.replacing_frames.proofs.Rows.{members, counts, frees}
+use Rattle.replacing_frames.specs.Picks.{Picks}
+use Rattle.replacing_frames.specs.Walks.{first_of, counted, gathered, walked}
+use Rattle.replacing_frames.proofs.Rows.{members, counts, frees, subjects, results}
 
 abbrev Row : Type 0
 Row = Prog → List Tree → Prog
@@ -42,6 +44,23 @@ member_begins names stay h p l es is =
 count_begins : (names : Names) (stay : Prog) (h p l : Tree) (es : List Tree) → l ≡ normal h (trees es) → count_row names stay (l ∷ p ∷ []) ≡ counted names (asks names p) es 0
 count_begins names stay h p l es is =
     ap (λ x. count_row names stay (x ∷ p ∷ [])) is ∙ (counts names p (elements (trees es)) 0 ∙ ap (λ xs. counted names (asks names p) xs 0) (elements-trees es))
+
+-- ---- what Cases tries
+
+abbrev with_rules : Names → Tree → Tree → List Tree → List Rule → Prog
+with_rules names h p es xs = elim xs as (λ _. Prog) [ [] ↦ matching names h p es [] | r ∷ rs ↦ cases_of names h (r ∷ rs) es [] ]
+
+picked_begins : (names : Names) (h p : Tree) (es : List Tree) (rs : List Rule) (pick : Pick) → Picks names p rs pick → with_rules names h p es (case_rule names p) ≡ gathered names rs pick h es []
+picked_begins names h p es rs Pick.Result picks =
+    ap (with_rules names h p es) picks.by.1 ∙ (results names (picks.by.0 ∷ []) h es [] ∙ ap (λ xs. gathered names xs Pick.Result h es []) (sym picks.by.2))
+picked_begins names h p es rs Pick.Subject picks =
+    ap (with_rules names h p es) picks.by.0 ∙ (subjects names p h es [] ∙ ap (λ xs. gathered names xs Pick.Subject h es []) (sym picks.by.1))
+
+cases_begins : (names : Names) (stay : Prog) (h p l : Tree) (es : List Tree) (rs : List Rule) (pick : Pick) → l ≡ normal h (trees es) → Picks names p rs pick
+    → cases names stay (l ∷ p ∷ []) ≡ gathered names rs pick h es []
+cases_begins names stay h p l es rs pick is picks =
+    ap (λ x. cases names stay (x ∷ p ∷ [])) is
+    ∙ (picked_begins names h p (elements (trees es)) rs pick picks ∙ ap (λ xs. gathered names rs pick h xs []) (elements-trees es))
 
 -- ---- a machine that starts
 
@@ -72,3 +91,9 @@ module _ (names : Names) (items : List Tree) (l p : Tree) (rs : List Rule) (es :
   free_starts all is =
       starts {names = names} (λ stay. free_q names stay items) (walking rs (Tally.Decides false) es) r is
       (λ stay. two (free_q names) stay items l p two_items ∙ (frees names p l ∙ (λ i. first_of names (sym rule i) (Done (truth names false)) (Done (truth names true)) (sym all i))))
+
+pub cases_starts : (names : Names) (items : List Tree) (l p : Tree) (rs : List Rule) (pick : Pick) (t : Tally) (es : List Tree) (r : Result (Option Replacing) AllocError) → pair_of items ≡ Some (l, p)
+    → Picks names p rs pick → (h : Tree) → l ≡ normal h (trees es) → t ≡ Tally.Gathers pick h [] → IfOk r (λ o. o ≡ Some (walking rs t es)) → Starts (left names) (λ stay. cases names stay items) r
+cases_starts names items l p rs pick t es r two_items picks h list gathers is =
+    starts {names = names} (λ stay. cases names stay items) (walking rs t es) r is
+    (λ stay. two (cases names) stay items l p two_items ∙ (cases_begins names stay h p l es rs pick list picks ∙ ap (λ x. walked names rs x es) (sym gathers)))

@@ -18,6 +18,7 @@ is_replacing Builtin.MatchQ = true
 is_replacing Builtin.MemberQ = true
 is_replacing Builtin.FreeQ = true
 is_replacing Builtin.Count = true
+is_replacing Builtin.Cases = true
 is_replacing _ = false
 
 -- before the first expression

@@ -1,4 +1,5 @@
 pub mod Left
 pub mod Moving
 pub mod Parts
+pub mod Picks
 pub mod Walks

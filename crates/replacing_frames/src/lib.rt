@@ -1,4 +1,4 @@
-//! The rows that ask whether a pattern matches, as machines: a machine asks for the values of guards, until it has the result of its row.
+//! The rows that try a pattern or a rule on expressions in turn, as machines: a machine asks for the values of guards, until it has the result of its row.
 #![tactic(auto)]
 
 mod parts;
@@ -8,5 +8,5 @@ mod tally;
 mod walk;
 
 pub use replacing::{Replacing, start};
-pub use tally::Tally;
-pub use walk::Walk;
+pub use tally::{Pick, Tally};
+pub use walk::{Present, Walk};

@@ -7,10 +7,11 @@ ghost use Rattle.builtin_names.specs.Named.{HasBuiltins, names_in};
 ghost use Rattle.frame_steps.specs.Setup.{setting_of};
 ghost use Rattle.frame_steps.specs.Steps.{Starts, Stepped, Falls};
 ghost use Rattle.replacing_frames.specs.Left.{is_replacing, left, questions, walking};
+ghost use Rattle.replacing_frames.specs.Picks.{Picks};
 
 use crate::parts::parts_of;
-use crate::rule_sets::asks;
-use crate::tally::Tally;
+use crate::rule_sets::{asks, one, rule_of};
+use crate::tally::{Pick, Tally};
 use crate::walk::Walk;
 use evaluation_steps::Halt;
 use expr_tree::{Expr, Node, pair_of};
@@ -107,6 +108,34 @@ fn count(alloc: Global, names: &Names, items: &[Expr]) -> Result<Option<Replacin
     walk(alloc, rules, Tally::Counts(0), elements.as_slice())
 }
 
+/// The rules that Cases tries, and what it gathers.
+fn cases_by(alloc: Global, names: &Names, pattern: &Expr) -> Result<(Items<Rule>, Pick), AllocError>
+    requires names { HasBuiltins names.now }
+    ensures { IfOk result (λ r. Picks (names_in names.now) pattern.now r.0 r.1) }
+{
+    match rule_of(alloc, names, pattern)? {
+        Some(rule) => Ok((one(alloc, rule)?, Pick::Result)),
+        None => Ok((asks(alloc, names, pattern)?, Pick::Subject)),
+    }
+}
+
+/// Cases: the elements that match, or the results of a rule, under the head of the list.
+#[tactic(auto, using(expr_tree::proofs::Callers::tree_steps, expr_tree::proofs::Pairs::pair_steps))]
+fn cases(alloc: Global, names: &Names, items: &[Expr]) -> Result<Option<Replacing>, AllocError>
+    requires names { HasBuiltins names.now }
+    ensures { Starts (left (names_in names.now)) (λ stay. replace.cases (names_in names.now) stay items.now) result }
+{
+    let Some((list, pattern)) = pair_of(items) else {
+        return Ok(None);
+    };
+    let Node::Normal(head, elements) = list.node() else {
+        return Ok(None);
+    };
+    let (rules, pick) = cases_by(alloc, names, pattern)?;
+    let tally = Tally::Gathers(pick, head.copy(alloc)?, Items::new(alloc));
+    walk(alloc, rules, tally, elements.as_slice())
+}
+
 /// The machine of a row, or `None` where its expression stays as it is. `None` in place of both for a row that is none of this crate.
 #[tactic(auto, unfolding(semantics::specs::Table::row))]
 pub fn start(
@@ -124,6 +153,7 @@ pub fn start(
         Builtin::MemberQ => Some(member_q(alloc, names, items)),
         Builtin::FreeQ => Some(free_q(alloc, names, items)),
         Builtin::Count => Some(count(alloc, names, items)),
+        Builtin::Cases => Some(cases(alloc, names, items)),
         _ => None,
     }
 }

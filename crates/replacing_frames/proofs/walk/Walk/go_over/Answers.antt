@@ -1,7 +1,8 @@
+use Rattle.std.proofs.Common.{rules, ◌≡◌, []}
 use Rattle.rule_frames.specs.Reading.{same}
 use Rattle.rule_frames.proofs.Shown.{shows_on}
 use Rattle.replacing_frames.proofs.Going.{goes_after}
-use Rattle.replacing_frames.proofs.Walking.{goes_end, goes_move, goes_next, shows_item}
+use Rattle.replacing_frames.proofs.Walking.{goes_end, goes_move, goes_next, shows_end, shows_item}
 use Rattle.replacing_frames.proofs.walk.Walk.go_over.Goals as goal
 
 pub loop-subject-init : goal.loop-subject-init
@@ -15,3 +16,8 @@ loop-subject-preserved c = shows_on (shows_item c.loop-subject.self.rules c.loop
 
 pub returns-in-Err : goal.returns-in-Err
 returns-in-Err c = goes_after (shows_item c.loop-subject.self.rules c.loop-subject.self.tally c.in-Some.subject c.pop.new.self c.loop-subject.invariant c.in-Some.ensures) (goes_end c.in-Err.ensures.goes)
+
+pub returns : goal.returns
+returns c =
+    let empty : c.loop-subject.self.rest ≡ [] = search rules in
+    goes_after (shows_end c.loop-subject.self.rules c.loop-subject.self.tally c.loop-subject.invariant empty) (c.finish.ensures c.args.defs.now)
