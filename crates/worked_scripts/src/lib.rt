@@ -13,3 +13,5 @@ mod row;
 mod run;
 #[cfg(test)]
 mod scripts;
+#[cfg(test)]
+mod statuses;

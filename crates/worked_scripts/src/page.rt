@@ -1,7 +1,7 @@
 //! The examples of the language's reference, in the order of the page.
 use crate::row::{Row, rows, values};
 
-static FIRST_LANGUAGE: &[Row] = rows![
+static SAMPLE_SCRIPT: &[Row] = rows![
     "--kernels 0":
     "sums and names": ["x = 3", "x + 4 + (x - 1)", "HoldComplete[# + 1 & /@ a]", "\"open"] => [
         "Out[1]= 3",
@@ -166,9 +166,9 @@ static DIFFERENCES: &[Row] = values![
     "Plus[Unevaluated[a], b]" => "a + b",
 ];
 
-/// The block of the first part.
-pub(crate) fn first_language() -> &'static [Row] {
-    FIRST_LANGUAGE
+/// The script that shows what a script and its transcript are.
+pub(crate) fn sample_script() -> &'static [Row] {
+    SAMPLE_SCRIPT
 }
 
 /// Expressions, their text, evaluation and patterns.
