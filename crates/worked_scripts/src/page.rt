@@ -160,10 +160,22 @@ static FUNCTIONS: &[Row] = values![
 
 static DIFFERENCES: &[Row] = values![
     "Head[3]" => "Head[3]",
+    "Count[{1, a}, _Integer]" => "0",
+    "Count[{1, a}, _?IntegerQ]" => "1",
+    "2^127" => "$Aborted",
     "6/4" => "6*4^(-1)",
     "2 (x + 1)" => "2*(1 + x)",
-    "Select[f[1, 2], EvenQ]" => "f[2]",
+    "x^2 + y" => "y + x^2",
+    "Sort[{f[a, b], g[c]}]" => "{g[c], f[a, b]}",
+    "First[{}]" => "First[{}]",
+    "Map[f, {a}, {1}]" => "Map[f, {a}, {1}]",
+    "Clear[x, y]" => "Clear[x, y]",
+    "Table[x, 3]" => "Table[x, 3]",
+    "Sum[i, {i, n}]" => "Sum[i, {i, n}]",
     "Plus[Unevaluated[a], b]" => "a + b",
+    "With[{x = y}, Function[y, x]]" => "Function[y, y]",
+    "Module[{x}, x]" => "x$1",
+    "3 x^-1" => "3*x^(-1)",
 ];
 
 /// The script that shows what a script and its transcript are.
