@@ -159,12 +159,6 @@ static SCOPED: &[Row] = rows![
     ],
 ];
 
-static LARGE: &[Row] = rows![
-    "--kernels 0":
-    "an expression has a greatest size": ["Length[Range[3999998]]", "Length[Range[3999999]]"] =>
-        ["Out[1]= 3999998", "Out[2]= $Aborted"],
-];
-
 static ONE_STEP: &[Row] = rows![
     "--kernels 0 --steps 1":
     "an inner sum is a step": ["1 + 2", "1 + (2 + 3)"] => ["Out[1]= 3", "Out[2]= $Aborted"],
@@ -186,14 +180,13 @@ static TEN_STEPS: &[Row] = rows![
 ];
 
 /// The tables, in the order in which the parts of the language build on one another.
-pub(crate) fn tables() -> [&'static [Row]; 10] {
+pub(crate) fn tables() -> [&'static [Row]; 9] {
     [
         READ,
         EVALUATED,
         MATCHED,
         DEFINED,
         SCOPED,
-        LARGE,
         ONE_STEP,
         HUNDRED_STEPS,
         ELEVEN_STEPS,
