@@ -6,11 +6,11 @@
 set -u
 top=$(cd "$(dirname "$0")/.." && pwd)
 cases=$top/bench/language
+program=$top/crates/wolfpar/out/wolfpar
 seen=$(mktemp) || exit 1
 trap 'rm -f "$seen"' EXIT
-ulimit -t 120
 
-wolfpar() { /usr/bin/time -o "$seen" -f '%U %M' "$top/wolfpar" --kernels 0 --steps 100000000 <"$1" | tail -n 1 | sed 's/^Out\[[0-9]*\]= //'; }
+wolfpar() { /usr/bin/time -o "$seen" -f '%U %M' "$program" --kernels 0 --steps 100000000 <"$1" | tail -n 1 | sed 's/^Out\[[0-9]*\]= //'; }
 yacas_run() { /usr/bin/time -o "$seen" -f '%U %M' yacas -pc "$1" </dev/null; }
 maxima_run() { /usr/bin/time -o "$seen" -f '%U %M' maxima --very-quiet --batch-string="load(\"$1\")\$" </dev/null | tail -n 1; }
 
@@ -36,7 +36,8 @@ beside() {
   awk -v a="$own" -v b="$least" -v m="$mark" 'BEGIN { if (b == "-") printf "%18s", "-"; else if (a + 0 > 0) printf "%18s", sprintf("%.2f (%.1f)%s", b, b / a, m); else printf "%18s", sprintf("%.2f%s", b, m) }'
 }
 
-"$top/wolfpar" --kernels 0 </dev/null || exit 1
+"$top/wolfpar" --kernels 0 </dev/null || exit 1  # builds it
+ulimit -t 120
 printf '%-14s%10s%18s%18s\n' case wolfpar yacas maxima
 for script in "$cases"/*.wl; do
   name=$(basename "$script" .wl)

@@ -8,8 +8,14 @@ mod nesting;
 #[cfg(test)]
 mod page;
 #[cfg(test)]
+mod removing;
+#[cfg(test)]
+mod rewriting;
+#[cfg(test)]
 mod row;
 #[cfg(test)]
 mod run;
 #[cfg(test)]
 mod scripts;
+#[cfg(test)]
+mod statuses;

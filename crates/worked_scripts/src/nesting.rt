@@ -1,4 +1,4 @@
-//! Cells that are deep.
+//! Cells at the limits of depth and of size.
 use crate::run::written;
 use std::alloc::Global;
 use std::test::Fail;
@@ -74,5 +74,16 @@ fn evaluations_nest_to_a_greatest_depth(rt: HostRuntime) -> Result<(), Fail> {
         line_of(rt.alloc(), &CALLS, 256)?.as_str(),
         "Out[1]= $Aborted\n"
     );
+    Ok(())
+}
+
+#[test]
+fn an_expression_has_a_greatest_size(rt: HostRuntime) -> Result<(), Fail> {
+    let lines = written(
+        rt.alloc(),
+        "--kernels 0",
+        "Length[Range[3999998]]\n\nLength[Range[3999999]]",
+    )?;
+    assert_eq!(rt; lines.as_str(), "Out[1]= 3999998\nOut[2]= $Aborted\n");
     Ok(())
 }

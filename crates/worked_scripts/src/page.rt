@@ -1,7 +1,7 @@
 //! The examples of the language's reference, in the order of the page.
 use crate::row::{Row, rows, values};
 
-static FIRST_LANGUAGE: &[Row] = rows![
+static SAMPLE_SCRIPT: &[Row] = rows![
     "--kernels 0":
     "sums and names": ["x = 3", "x + 4 + (x - 1)", "HoldComplete[# + 1 & /@ a]", "\"open"] => [
         "Out[1]= 3",
@@ -18,7 +18,13 @@ static TEXT: &[Row] = values![
     "f[1 + 1, x]" => "f[2, x]",
     "MatchQ[{1, 2}, {_, ___}]" => "True",
     "MatchQ[f[1], _f]" => "True",
+    "{a, a, b} /. {x_, x_, y_} -> {x, y}" => "{a, b}",
+    "Cases[{1, a, 2}, _?IntegerQ]" => "{1, 2}",
+    "Cases[{1, 5, 9}, x_ /; x > 4]" => "{5, 9}",
+    "Cases[{a, b, c}, a | c]" => "{a, c}",
+    "Hold[1 + 1] /. HoldPattern[1 + 1] -> x" => "Hold[x]",
     "MatchQ[x_, Verbatim[x_]]" => "True",
+    "{1, 2, 3} /. {x__, y__} -> {{x}, {y}}" => "{{1}, {2, 3}}",
 ];
 
 static DEFINITIONS: &[Row] = values![
@@ -101,6 +107,7 @@ static ASSIGNMENT: &[Row] = values![
     "area[sq] ^:= 2 + 2; area[sq]" => "4",
     "sq /: area[sq] = 2 + 2" => "4",
     "sq /: area[sq] := 4; area[sq]" => "4",
+    "x = 1; x =.; x" => "x",
     "n = 1; {n++, n--, n}" => "{1, 2, 1}",
     "n = 1; {++n, --n}" => "{2, 1}",
     "n = 1; n += 2" => "3",
@@ -152,6 +159,9 @@ static FUNCTIONS: &[Row] = values![
     "MemberQ[{1, x}, x]" => "True",
     "FreeQ[f[g[x]], x]" => "False",
     "Count[{1, a, 2}, _?IntegerQ]" => "2",
+    "Cases[{f[1], g[2], f[3]}, f[x_] -> x]" => "{1, 3}",
+    "f[x, y] /. {x -> 2, y -> 3}" => "f[2, 3]",
+    "f[f[f[a]]] //. f[x_] -> x" => "a",
     "StringJoin[\"a\", \"b\"]" => "\"ab\"",
     "StringLength[\"aé\"]" => "2",
     "Characters[\"ab\"]" => "{\"a\", \"b\"}",
@@ -160,15 +170,32 @@ static FUNCTIONS: &[Row] = values![
 
 static DIFFERENCES: &[Row] = values![
     "Head[3]" => "Head[3]",
+    "Count[{1, a}, _Integer]" => "0",
+    "Count[{1, a}, _?IntegerQ]" => "1",
+    "2^127" => "$Aborted",
     "6/4" => "6*4^(-1)",
     "2 (x + 1)" => "2*(1 + x)",
-    "Select[f[1, 2], EvenQ]" => "f[2]",
+    "x^2 + y" => "y + x^2",
+    "Sort[{f[a, b], g[c]}]" => "{g[c], f[a, b]}",
+    "First[{}]" => "First[{}]",
+    "Map[f, {a}, {1}]" => "Map[f, {a}, {1}]",
+    "Clear[x, y]" => "Clear[x, y]",
+    "Table[x, 3]" => "Table[x, 3]",
+    "Sum[i, {i, n}]" => "Sum[i, {i, n}]",
     "Plus[Unevaluated[a], b]" => "a + b",
+    "Cases[f[1, a], _?IntegerQ]" => "f[1]",
+    "a + b + c /. a + b -> d" => "a + b + c",
+    "x /. {{x -> 1}}" => "x /. {{x -> 1}}",
+    "{1, 2, 3} //. {x_, y__} -> {y}" => "{2, 3}",
+    "x =." => "$Failed",
+    "With[{x = y}, Function[y, x]]" => "Function[y, y]",
+    "Module[{x}, x]" => "x$1",
+    "3 x^-1" => "3*x^(-1)",
 ];
 
-/// The block of the first part.
-pub(crate) fn first_language() -> &'static [Row] {
-    FIRST_LANGUAGE
+/// The script that shows what a script and its transcript are.
+pub(crate) fn sample_script() -> &'static [Row] {
+    SAMPLE_SCRIPT
 }
 
 /// Expressions, their text, evaluation and patterns.

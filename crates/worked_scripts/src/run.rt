@@ -1,6 +1,6 @@
 //! The rows, run.
 use crate::row::Row;
-use crate::{edges, page, scripts};
+use crate::{edges, page, removing, rewriting, scripts};
 use port_io::{Bytes, Calls, MemSink, MemSource};
 use script_run::{Status, run_alone};
 use std::alloc::Global;
@@ -8,7 +8,7 @@ use std::str;
 use std::test::Fail;
 
 /// Room for a transcript.
-const ROOM: usize = 100_000;
+pub(crate) const ROOM: usize = 100_000;
 
 fn words_of(alloc: Global, words: &str) -> Result<Vec<String>, Fail> {
     let mut list = Vec::new(alloc);
@@ -18,26 +18,46 @@ fn words_of(alloc: Global, words: &str) -> Result<Vec<String>, Fail> {
     Ok(list)
 }
 
-fn source_of(alloc: Global, script: &str) -> Result<MemSource, Fail> {
+/// A source of these bytes whose calls with these numbers fail.
+pub(crate) fn source_of(alloc: Global, bytes: &[u8], fails: Calls) -> Result<MemSource, Fail> {
     Ok(MemSource {
-        bytes: Bytes::from_vec(Vec::from_slice(alloc, script.as_bytes())?),
+        bytes: Bytes::from_vec(Vec::from_slice(alloc, bytes)?),
         place: 0,
         calls: 0,
-        fails: Calls::new(alloc),
+        fails,
     })
 }
 
-/// What is written for a script under these words, or what was written before it ended otherwise than Done.
-pub(crate) fn written(alloc: Global, words: &str, script: &str) -> Result<String, Fail> {
+/// How a run ended, and what it wrote.
+#[derive(Drop)]
+pub(crate) struct Ended {
+    pub(crate) status: Status,
+    pub(crate) text: String,
+}
+
+/// Runs a script under these words.
+pub(crate) fn ended(
+    alloc: Global,
+    words: &str,
+    mut source: MemSource,
+    mut sink: MemSink,
+) -> Result<Ended, Fail> {
     let words = words_of(alloc, words)?;
-    let mut source = source_of(alloc, script)?;
-    let mut sink = MemSink::new(alloc, ROOM, Calls::new(alloc))?;
     let status = run_alone(alloc, words.as_slice(), &mut source, &mut sink).status;
     let mut text = String::new(alloc);
     if let Ok(bytes) = str::from_utf8(sink.bytes()) {
         text.push_str(bytes)?;
     }
-    if status != Status::Done {
+    Ok(Ended { status, text })
+}
+
+/// What is written for a script under these words, or what was written before it ended otherwise than Done.
+pub(crate) fn written(alloc: Global, words: &str, script: &str) -> Result<String, Fail> {
+    let source = source_of(alloc, script.as_bytes(), Calls::new(alloc))?;
+    let sink = MemSink::new(alloc, ROOM, Calls::new(alloc))?;
+    let run = ended(alloc, words, source, sink)?;
+    let mut text = run.text;
+    if run.status != Status::Done {
         text.push_str("and then it ended")?;
     }
     Ok(text)
@@ -75,7 +95,7 @@ fn scripts_print_their_transcripts(rt: HostRuntime) -> Result<(), Fail> {
 #[test]
 fn the_examples_of_the_page_hold(rt: HostRuntime) -> Result<(), Fail> {
     let tables = [
-        page::first_language(),
+        page::sample_script(),
         page::text(),
         page::definitions(),
         page::numbers(),
@@ -94,6 +114,20 @@ fn the_examples_of_the_page_hold(rt: HostRuntime) -> Result<(), Fail> {
 #[test]
 fn the_edges_hold(rt: HostRuntime) -> Result<(), Fail> {
     let report = differing(rt.alloc(), edges::tables().as_slice())?;
+    assert_eq!(rt; report.as_str(), "");
+    Ok(())
+}
+
+#[test]
+fn replacing_holds(rt: HostRuntime) -> Result<(), Fail> {
+    let report = differing(rt.alloc(), rewriting::tables().as_slice())?;
+    assert_eq!(rt; report.as_str(), "");
+    Ok(())
+}
+
+#[test]
+fn taking_away_holds(rt: HostRuntime) -> Result<(), Fail> {
+    let report = differing(rt.alloc(), removing::tables().as_slice())?;
     assert_eq!(rt; report.as_str(), "");
     Ok(())
 }

@@ -86,6 +86,40 @@ static MATCHED: &[Row] = rows![
     "--kernels 0":
     "equal names match identical expressions": ["MatchQ[f[1, 2], f[x_, x_]]", "MatchQ[f[1, 1], f[x_, x_]]"] =>
         ["Out[1]= False", "Out[2]= True"],
+    "an earlier sequence takes the shortest run first": [
+        "l = {};",
+        "MatchQ[{1, 2, 3}, {x__, y__} /; (AppendTo[l, {{x}, {y}}]; False)]",
+        "l"
+    ] => [
+        "Out[2]= False",
+        "Out[3]= {{{1}, {2, 3}}, {{1, 2}, {3}}}"
+    ],
+    "under Flat a blank takes a run in the head": [
+        "SetAttributes[g, Flat]",
+        "l = {};",
+        "MatchQ[g[1, 2, 3], g[x_, y_] /; (AppendTo[l, {x, y}]; False)]",
+        "l"
+    ] => [
+        "Out[3]= False",
+        "Out[4]= {{1, g[2, 3]}, {g[1, 2], 3}}"
+    ],
+    "under Orderless a blank takes any element": [
+        "SetAttributes[o, Orderless]",
+        "l = {};",
+        "MatchQ[o[a, b], o[x_, y_] /; (AppendTo[l, {x, y}]; False)]",
+        "l"
+    ] => [
+        "Out[3]= False",
+        "Out[4]= {{a, b}, {b, a}}"
+    ],
+    "alternatives go from left to right": [
+        "l = {};",
+        "MatchQ[f[1], (f[y_] | y_) /; (AppendTo[l, y]; False)]",
+        "l"
+    ] => [
+        "Out[2]= False",
+        "Out[3]= {1, f[1]}"
+    ],
 ];
 
 static DEFINED: &[Row] = rows![
