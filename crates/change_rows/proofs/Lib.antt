@@ -3,6 +3,7 @@ mod Flags
 mod Guarding
 mod Renewals
 mod Attaching
+mod Unsetting
 pub mod Smaller
 mod Sides
 mod Forms

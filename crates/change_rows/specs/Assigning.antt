@@ -1,4 +1,4 @@
--- Assignments.
+-- Assignments, and Unset.
 --     assigned              an assignment whose left side is evaluated
 --     left_assignment       the program that is left
 --     asked_in              the questions that are left
@@ -20,6 +20,7 @@ use Rattle.change_rows.specs.declared.assignment.Goal.{Goal}
 use Rattle.change_rows.specs.declared.assignment.Phase.{Phase}
 use Rattle.change_rows.specs.declared.assignment.Assignment.{Assignment}
 use Rattle.change_rows.specs.declared.elements.Elements.{Elements}
+use Rattle.change_rows.specs.Unsetting.{unset_at}
 
 -- whether an assignment gives Null in place of its right side
 abbrev pub is_delayed : Form → Bool
@@ -42,7 +43,8 @@ abbrev pub begun : Names → Form → Tree → Tree → Prog
 begun names form right l = elim (asks_right form) [ true ↦ Ask right (λ v. assigned names form v l) | false ↦ assigned names form right l ]
 
 abbrev pub reached : Names → Goal → Tree → Prog
-reached names goal l = begun names goal.form goal.right l
+reached names (Goal.Assign form right) = begun names form right
+reached names Goal.Unset = unset_at names
 
 -- flattening, threading and sorting
 abbrev pub settled : Names → Tree → Attributes → (Tree → Prog) → List Tree → Prog
@@ -63,15 +65,11 @@ headed_by names head items k = attributes_of head (λ a. ask_items names a items
 abbrev pub gone_on : Names → Elements → (Tree → Prog) → List Tree → Prog
 gone_on names e k done = ask_rest names (attributes_in e.attrs) e.rest done (assembled names e.head (attributes_in e.attrs) k)
 
--- the right side has its value
-abbrev pub given : Names → Goal → Tree → Tree → Prog
-given names goal v l = assigned names goal.form v l
-
 abbrev pub left_phase : Names → Goal → Phase → Option Tree → Prog
 left_phase names goal (Phase.Before l) answer = left_side names l (reached names goal)
 left_phase names goal (Phase.Head items) (Some h) = headed_by names h items (reached names goal)
 left_phase names goal (Phase.Items e) (Some v) = gone_on names e (reached names goal) (e.done ++ v ∷ [])
-left_phase names goal (Phase.Right l) (Some v) = given names goal v l
+left_phase names goal (Phase.Right form l) (Some v) = assigned names form v l
 left_phase names goal _ answer = null names
 
 abbrev pub left_assignment : Names → Assignment → Option Tree → Prog
@@ -82,7 +80,7 @@ abbrev pub asked_in : Phase → ℕ
 asked_in (Phase.Before l) = length (items_of l) + 3
 asked_in (Phase.Head items) = length items + 2
 asked_in (Phase.Items e) = length e.rest + 1
-asked_in (Phase.Right l) = 0
+asked_in (Phase.Right form l) = 0
 asked_in Phase.Over = 0
 
 -- the attributes of a head, where definitions are these

@@ -4,6 +4,7 @@ pub mod Named
 pub mod Shapes
 pub mod Single
 pub mod Renewing
+pub mod Unsetting
 pub mod Assigning
 pub mod Left
 pub mod Effects

@@ -10,6 +10,7 @@ is_change Builtin.UpSet = true
 is_change Builtin.UpSetDelayed = true
 is_change Builtin.TagSet = true
 is_change Builtin.TagSetDelayed = true
+is_change Builtin.Unset = true
 is_change Builtin.Increment = true
 is_change Builtin.Decrement = true
 is_change Builtin.PreIncrement = true

@@ -27,7 +27,7 @@ fn attaches_shared(scene: &Scene, defs: &Defs, targets: &Targets, asked: &Syms) 
 {
     match targets.as_slice() {
         [] => false,
-        [_, ..] => any_shared(scene, defs, asked.as_slice()),
+        [_, ..] => any_shared(scene, defs, asked),
     }
 }
 

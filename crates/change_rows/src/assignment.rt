@@ -1,6 +1,7 @@
-//! Assignments.
+//! Assignments, and Unset, whose left side is evaluated as that of an assignment.
 ghost use Rattle.std.specs.Prelude.{◌≡◌, ◌+◌, Option, Some, None, length};
 ghost use Rattle.expr_tree.specs.Tree.{Tree};
+ghost use Rattle.semantics.specs.Changes as changes;
 ghost use Rattle.semantics.specs.Program.{Prog};
 ghost use Rattle.builtin_names.specs.Attributes.{attributes_in};
 ghost use Rattle.builtin_names.specs.Named.{HasBuiltins, names_in};
@@ -9,13 +10,14 @@ ghost use Rattle.frame_steps.specs.Steps.{Falls, Starts, Stepped};
 ghost use Rattle.change_rows.specs.Left.{left};
 ghost use Rattle.change_rows.specs.declared.assignment.Phase.{Phase};
 ghost use Rattle.change_rows.specs.declared.change.Change.{Change};
-ghost use Rattle.change_rows.specs.Assigning.{asked_in, assembled, attributes_of_head, form_row, given, headed_by, left_assignment, left_phase, of_form, of_tag, of_tagged, reached, tag_form};
+ghost use Rattle.change_rows.specs.Assigning.{asked_in, assembled, assigned, attributes_of_head, begun, form_row, headed_by, left_assignment, left_phase, of_form, of_tag, of_tagged, reached, tag_form};
 
 use crate::assign::{asks_right, assign_or_fail};
 use crate::change::{Change, done_with};
 use crate::elements::Elements;
 use crate::left_call::evaluated;
 use crate::shapes::symbol_in;
+use crate::unset::unset;
 use builtin_names::name;
 use evaluation_steps::Halt;
 use expr_tree::{Attrs, Expr, Node, Sym};
@@ -28,11 +30,11 @@ use semantics::Builtin;
 use std::alloc::{AllocError, Global};
 use std::mem;
 
-/// What is assigned to a left side, and how.
+/// What becomes of a left side: a right side is assigned to it, or what it holds is taken away.
 #[derive(Drop)]
-pub struct Goal {
-    pub(crate) form: Form,
-    pub(crate) right: Expr,
+pub enum Goal {
+    Assign(Form, Expr),
+    Unset,
 }
 
 /// How far it is: the left side as it stands; its head is asked for, and its elements are left; an element is asked for; the right
@@ -42,11 +44,11 @@ pub enum Phase {
     Before(Expr),
     Head(Stack),
     Items(Elements),
-    Right(Expr),
+    Right(Form, Expr),
     Over,
 }
 
-/// An assignment.
+/// An assignment, or Unset.
 #[derive(Drop)]
 pub struct Assignment {
     pub(crate) goal: Goal,
@@ -163,27 +165,34 @@ impl Assignment {
         ensures stepped { (stay : Prog) → Stepped (setting_of scene.now) (reached (names_in scene.now.names.now) self.old.goal left) stay defs.old used.old result (left_assignment (names_in scene.now.names.now) self.new) defs.new used.new }
         ensures falls { Falls result 1 (λ answer. asked_in self.new.phase) }
     {
-        let right = self.goal.right.copy(scene.alloc)?;
-        if asks_right(self.goal.form) {
-            self.phase = Phase::Right(left);
-            return Ok(Move::Ask(right, false));
+        match &self.goal {
+            Goal::Assign(form, right) => {
+                let form = *form;
+                let right = right.copy(scene.alloc)?;
+                self.assign(scene, defs, used, form, left, right)
+            }
+            Goal::Unset => done_with(unset(scene, defs, used, &left)),
         }
-        done_with(assign_or_fail(scene, defs, used, self.goal.form, &left, right))
     }
 
-    /// The right side has its value.
-    fn with_right(
-        &self,
+    /// The left side of an assignment is evaluated.
+    fn assign(
+        &mut self,
         scene: &Scene,
         defs: &mut Defs,
         used: &mut bool,
+        form: Form,
         left: Expr,
-        value: Expr,
+        right: Expr,
     ) -> Result<Move, Halt>
-        ensures stepped { (stay : Prog) (rest : Option Tree → Prog) → Stepped (setting_of scene.now) (given (names_in scene.now.names.now) self.now.goal value left) stay defs.old used.old result rest defs.new used.new }
-        ensures falls { Falls result 0 (λ answer. 0) }
+        ensures stepped { (stay : Prog) → Stepped (setting_of scene.now) (begun (names_in scene.now.names.now) form right left) stay defs.old used.old result (left_assignment (names_in scene.now.names.now) self.new) defs.new used.new }
+        ensures falls { Falls result 1 (λ answer. asked_in self.new.phase) }
     {
-        done_with(assign_or_fail(scene, defs, used, self.goal.form, &left, value))
+        if asks_right(form) {
+            self.phase = Phase::Right(form, left);
+            return Ok(Move::Ask(right, false));
+        }
+        done_with(assign_or_fail(scene, defs, used, form, &left, right))
     }
 
     pub(crate) fn step(
@@ -206,13 +215,28 @@ impl Assignment {
                 Some(value) => self.with_item(scene, defs, used, elements, value),
                 None => Ok(Move::Done(name(scene.names, Builtin::Null))),
             },
-            Phase::Right(left) => match answer {
-                Some(value) => self.with_right(scene, defs, used, left, value),
+            Phase::Right(form, left) => match answer {
+                Some(value) => with_right(scene, defs, used, form, left, value),
                 None => Ok(Move::Done(name(scene.names, Builtin::Null))),
             },
             Phase::Over => Ok(Move::Done(name(scene.names, Builtin::Null))),
         }
     }
+}
+
+/// The right side of an assignment has its value.
+fn with_right(
+    scene: &Scene,
+    defs: &mut Defs,
+    used: &mut bool,
+    form: Form,
+    left: Expr,
+    value: Expr,
+) -> Result<Move, Halt>
+    ensures stepped { (stay : Prog) (rest : Option Tree → Prog) → Stepped (setting_of scene.now) (assigned (names_in scene.now.names.now) form value left) stay defs.old used.old result rest defs.new used.new }
+    ensures falls { Falls result 0 (λ answer. 0) }
+{
+    done_with(assign_or_fail(scene, defs, used, form, &left, value))
 }
 
 fn begun_with(goal: Goal, left: Expr) -> Change
@@ -237,7 +261,7 @@ fn of_sides(
         return Ok(None);
     };
     let right = second.copy(alloc)?;
-    Ok(Some(begun_with(Goal { form, right }, first.copy(alloc)?)))
+    Ok(Some(begun_with(Goal::Assign(form, right), first.copy(alloc)?)))
 }
 
 /// The form of an assignment with this tag.
@@ -268,7 +292,7 @@ fn of_tagged(
         Some(symbol) => {
             let form = tag_form(delayed, symbol);
             let right = second.copy(alloc)?;
-            Ok(Some(begun_with(Goal { form, right }, first.copy(alloc)?)))
+            Ok(Some(begun_with(Goal::Assign(form, right), first.copy(alloc)?)))
         }
     }
 }
@@ -295,4 +319,18 @@ pub(crate) fn of_tag(
     ensures { Starts (left (names_in names.now)) (λ stay. of_tag (names_in names.now) delayed stay items.now) result }
 {
     of_tagged(alloc, names, delayed, items)
+}
+
+/// The machine of Unset.
+pub(crate) fn of_unset(
+    alloc: Global,
+    names: &Names,
+    items: &[Expr],
+) -> Result<Option<Change>, AllocError>
+    ensures { Starts (left (names_in names.now)) (λ stay. changes.unset (names_in names.now) stay items.now) result }
+{
+    let [only] = items else {
+        return Ok(None);
+    };
+    Ok(Some(begun_with(Goal::Unset, only.copy(alloc)?)))
 }

@@ -9,7 +9,7 @@ ghost use Rattle.change_rows.specs.Rows.{is_change};
 ghost use Rattle.change_rows.specs.Left.{left, questions};
 ghost use Rattle.change_rows.specs.Results.{done_with};
 
-use crate::assignment::{Assignment, of_form, of_tag};
+use crate::assignment::{Assignment, of_form, of_tag, of_unset};
 use crate::renewal::{Renewal, of_integer, of_negated, of_operand};
 use crate::single::{Deed, Single, of_attributes, of_symbol};
 use evaluation_steps::Halt;
@@ -48,6 +48,7 @@ impl Change {
             Builtin::UpSetDelayed => Some(of_form(alloc, names, Form::UpSetDelayed, items)),
             Builtin::TagSet => Some(of_tag(alloc, names, false, items)),
             Builtin::TagSetDelayed => Some(of_tag(alloc, names, true, items)),
+            Builtin::Unset => Some(of_unset(alloc, names, items)),
             Builtin::Increment => Some(of_integer(names, 1, true, items)),
             Builtin::Decrement => Some(of_integer(names, -1, true, items)),
             Builtin::PreIncrement => Some(of_integer(names, 1, false, items)),

@@ -7,7 +7,7 @@ ghost use Rattle.frame_steps.specs.Setup.{mode_of};
 ghost use Rattle.kernel_defs.proofs.Runs.{seen_all};
 ghost use Rattle.change_rows.specs.Effects.{is_refused};
 
-use expr_tree::Sym;
+use expr_tree::{Sym, Syms};
 use frame_steps::{Mode, Scene};
 use kernel_defs::Defs;
 
@@ -29,10 +29,10 @@ pub(crate) fn note_use(used: &mut bool, shared: bool)
 }
 
 /// Whether some of these symbols are shared.
-pub(crate) fn any_shared(scene: &Scene, defs: &Defs, symbols: &[Sym]) -> bool
+pub(crate) fn any_shared(scene: &Scene, defs: &Defs, symbols: &Syms) -> bool
     ensures { result ≡ changes.any_shared (seen_all (names_in scene.now.names.now) defs.now symbols.now) }
 {
-    for symbol in symbols {
+    for symbol in symbols.as_slice() {
         if is_shared(scene, defs, *symbol) {
             return true;
         }

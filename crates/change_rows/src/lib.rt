@@ -11,6 +11,7 @@ mod left_call;
 mod renewal;
 mod shapes;
 mod single;
+mod unset;
 
 pub use assignment::{Assignment, Goal, Phase};
 pub use change::Change;
