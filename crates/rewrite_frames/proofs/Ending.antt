@@ -13,7 +13,7 @@ use Rattle.semantics.specs.Replace.{replaced, rounds}
 use Rattle.evaluation_steps.specs.declared.Halt.{Halt}
 use Rattle.evaluation_steps.specs.Moves.{turning}
 use Rattle.frame_steps.specs.declared.moves.Move.{Move}
-use Rattle.rule_frames.specs.Reading.{Shows, fitting, HasStopped, stop, large, passing}
+use Rattle.rule_frames.specs.Reading.{Shows, fitting, stop, large, passing}
 use Rattle.rule_frames.proofs.Shown.{shows_on, shows_stop, shows_is}
 use Rattle.rewrite_frames.specs.declared.rounds.Rounds.{Rounds}
 use Rattle.rewrite_frames.specs.declared.walk.Walked.{Walked}

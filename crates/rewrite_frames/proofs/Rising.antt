@@ -1,7 +1,7 @@
 -- How a walk goes on when a part is done, and where no rule applies.
 use Rattle.std.proofs.Common.{◌≡◌, ◌∙◌, ℕ, ◌+◌, ◌<◌, ◌≤◌, List, [], ◌∷◌, ◌++◌, reverse, Option, Some, None, refl, ap, sym, subst, append_assoc, append-nil, arith}
 use Rattle.std.proofs.lemmas.List.{reverse-append}
-use Rattle.expr_tree.specs.Tree.{Tree, integer, string, symbol, normal, Trees, nil, cons, trees, elements, call}
+use Rattle.expr_tree.specs.Tree.{Tree, integer, string, symbol, normal, trees, elements, call}
 use Rattle.expr_tree.proofs.Trees.{trees-elements}
 use Rattle.semantics.specs.Names.{Names}
 use Rattle.semantics.specs.Rule.{Rule}
@@ -11,9 +11,9 @@ use Rattle.rewrite_frames.specs.declared.level.Elements.{Elements}
 use Rattle.rewrite_frames.specs.declared.level.Level.{Level}
 use Rattle.rewrite_frames.specs.declared.walk.Walk.{Walk}
 use Rattle.rewrite_frames.specs.Levels.{with_part, elements_left, risen}
-use Rattle.rewrite_frames.specs.Walks.{entered, upward, going}
-use Rattle.rewrite_frames.specs.Weights.{weight, weights, level_weight, levels_weight, weight_of}
-use Rattle.rewrite_frames.specs.Rising.{Rises, Enters, IsLess}
+use Rattle.rewrite_frames.specs.Walks.{entered, upward}
+use Rattle.rewrite_frames.specs.Weights.{weight, weights, level_weight, levels_weight}
+use Rattle.rewrite_frames.specs.Rising.{Rises, Enters}
 
 -- the last is the first of what is left
 pub turned : {X : Type 0} (xs ys : List X) (x : X) → xs ≡ ys ++ x ∷ [] → reverse xs ≡ x ∷ reverse ys

@@ -11,7 +11,7 @@ use Rattle.semantics.specs.Replace.{replaced, rounds, rule_set, replace_all, rep
 use Rattle.rewrite_frames.specs.declared.rewriting.Rewriting.{Rewriting}
 use Rattle.rewrite_frames.specs.declared.rounds.Rounds.{Rounds}
 use Rattle.rewrite_frames.specs.declared.walk.Walk.{Walk}
-use Rattle.rewrite_frames.specs.Left.{left, left_machine, left_all}
+use Rattle.rewrite_frames.specs.Left.{left, left_all}
 use Rattle.rewrite_frames.specs.Rounds.{left_rounds, rounds_over}
 use Rattle.rewrite_frames.specs.Walks.{walk_over}
 use Rattle.rewrite_frames.proofs.Ending.{before_round}

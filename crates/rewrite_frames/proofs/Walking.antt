@@ -1,5 +1,5 @@
 -- How the parts of a walk are put together.
-use Rattle.std.proofs.Common.{◌≡◌, ◌∙◌, ℕ, ◌+◌, ◌<◌, ◌≤◌, Bool, reverse, List, Option, Some, None, Result, Ok, Err, ap, sym, subst, refl, arith}
+use Rattle.std.proofs.Common.{◌≡◌, ◌∙◌, ◌<◌, ◌≤◌, Bool, reverse, List, Option, Some, None, Result, Ok, Err, ap, sym, subst, refl, arith}
 use Rattle.expr_tree.specs.Tree.{Tree}
 use Rattle.expr_tree.specs.declared.limits.Limits.{Limits}
 use Rattle.name_table.specs.Table.{NameTable}
@@ -22,7 +22,7 @@ use Rattle.rewrite_frames.specs.declared.walk.Walk.{Walk}
 use Rattle.rewrite_frames.specs.declared.walk.Walked.{Walked}
 use Rattle.rewrite_frames.specs.Moving.{Part, Shown, Halted, Walks, Passes}
 use Rattle.rewrite_frames.specs.Rising.{Rises, Enters}
-use Rattle.rewrite_frames.specs.Walks.{after, upward, place_left, trial_left, left_by, left_walk, whole_of}
+use Rattle.rewrite_frames.specs.Walks.{after, upward, place_left, trial_left, left_walk, whole_of}
 use Rattle.rewrite_frames.specs.Weights.{weight, levels_weight, weight_of, IsLighter}
 use Rattle.rewrite_frames.proofs.Rising.{weight_is_positive}
 

@@ -1,5 +1,5 @@
 use Rattle.semantics.specs.Program.{Done}
-use Rattle.rewrite_frames.proofs.Ending.{walk_asks, walk_halts, whole_done, whole_stops}
+use Rattle.rewrite_frames.proofs.Ending.{walk_asks, walk_halts}
 use Rattle.rewrite_frames.proofs.rewriting.step_all.Goals as goal
 
 pub returns-in-Ok-Ask : goal.returns-in-Ok-Ask
