@@ -1,6 +1,13 @@
 //! ReplaceAll and ReplaceRepeated as a machine: it asks for the values of guards, until it has the result of its row.
 #![tactic(auto)]
 
+mod level;
 mod rewriting;
+mod rounds;
+mod rule_sets;
+mod walk;
 
+pub use level::{Elements, Level};
 pub use rewriting::{Rewriting, start};
+pub use rounds::Rounds;
+pub use walk::{Walk, Walked};

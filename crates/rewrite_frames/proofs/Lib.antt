@@ -1,0 +1,7 @@
+mod Ending
+mod Falling
+mod Rising
+mod RuleSets
+mod Running
+mod Starting
+mod Walking
