@@ -1,5 +1,5 @@
 -- How a machine is performed: its steps, and what came of what it asked, lead to what is left of its program.
-use Rattle.std.proofs.Common.{◌≡◌, ℕ, Bool, true, List, Option, Some, None, Result, Ok, Err, inl, inr, sym, subst}
+use Rattle.std.proofs.Common.{◌≡◌, ℕ, Bool, true, List, Option, Some, None, Result, Ok, Err, inl, inr, subst}
 use Rattle.std.specs.Result.{IsErrAnd}
 use Rattle.expr_tree.specs.declared.sym.Sym.{Sym}
 use Rattle.expr_tree.specs.Tree.{Tree}
@@ -16,8 +16,6 @@ use Rattle.frames_scope.specs.Reading.{locals_in}
 use Rattle.frame_steps.specs.Steps as f
 use Rattle.frame_steps.specs.Steps.{headed, state_at, EndsBy, Falls}
 use Rattle.frame_steps.specs.declared.moves.Move.{Move}
-use Rattle.row_frames.specs.Frames.{left}
-use Rattle.row_frames.specs.declared.frame.Frame.{Frame}
 use Rattle.frames_scope.specs.declared.locals.Local as l
 use Rattle.eval_seq.specs.declared.ending.Ending.{Ending}
 use Rattle.eval_seq.specs.declared.ending.Missing.{Missing}
@@ -63,11 +61,6 @@ module _ {S : Type 0} {step : Step S} {set : Setting} {n : ℕ} where
   pub begins_out : {p : Prog → Prog} {o : Prog} {x : Ending} {s m z : S} {st st' st'' : State} → ((rest : Prog) → Reached step set n (p rest) s st o st' m) → PassOf step set n o m st' (Err x) st'' z →
       Begins step set n p s st (Err x) st'' z
   begins_out l a = record { by = record { by = λ rest. pass_on (l rest) a } }
-
-  -- a machine
-  pub begins_machine : {p q : Prog → Prog} {frame : Frame} {s m : S} {st st' : State} → ((rest : Prog) → Reached step set n (p rest) s st (q rest) st' m) → ((rest : Prog) → left set.names frame rest None ≡ q rest) →
-      Begins step set n p s st (Ok (Start.Machine frame)) st' m
-  begins_machine l e = record { by = λ rest. reached_on (l rest) (reached_is (sym (e rest))) }
 
   pub begins_opens : {p : Prog → Prog} {r : Result Start Ending} {s : S} {st : State} → Opens set p r → Begins step set n p s st r st s
   begins_opens {r = Ok start} a = record { by = λ rest. reached_is (a.by rest) }

@@ -1,10 +1,14 @@
 -- How rows begin.
-use Rattle.std.proofs.Common.{◌≡◌, ◌∙◌, List, Bool, true, false, ◌||◌, Option, Some, None, Result, Ok, Err, inl, inr, refl, sym, ap}
+use Rattle.std.proofs.Common.{◌≡◌, ◌∙◌, List, [], ◌∷◌, length, ◌==◌, Bool, true, false, ◌||◌, Option, Some, None, Result, Ok, Err, inl, inr, refl, sym, ap, suc, arith}
+use Rattle.std.proofs.lemmas.Bool.{eqb-true}
 use Rattle.std.specs.Result.{IsErrAnd}
 use Rattle.expr_tree.specs.Tree.{Tree}
 use Rattle.expr_tree.specs.declared.limits.Stop.{Stop}
 use Rattle.semantics.specs.declared.builtin.Builtin.{Builtin}
+use Rattle.semantics.specs.Attempt.{try_rules}
+use Rattle.semantics.specs.Names.{Names}
 use Rattle.semantics.specs.Program.{Prog, Done}
+use Rattle.semantics.specs.Rule.{Rule}
 use Rattle.semantics.specs.Table.{row, worked, as_program}
 use Rattle.semantics.specs.Worked.{Worked, Stays, Gives, TooWide}
 use Rattle.semantics.specs.Play.{Setting}
@@ -37,6 +41,16 @@ module _ {set : Setting} where
   pub opens_lost : {p : Prog → Prog} {r : Result Start Ending} → IsErrAnd r (λ y. y ≡ Ending.Halt Halt.NoMemory) → Opens set p r
   opens_lost {r = Ok start} i = absurd i
   opens_lost {r = Err y} i = rw i (record { by = tt })
+
+  -- ---- rules
+
+  pub rules_none : (rules : List Rule) (e : Tree) → (length rules == 0) ≡ true → Opens set (λ rest. try_rules set.names rules e Done rest) (Ok (Start.Given None))
+  rules_none [] e is = record { by = λ rest. refl }
+  rules_none (r ∷ rs) e is = let same : suc (length rs) ≡ 0 = eqb-true (suc (length rs)) 0 is in absurd (omega (arith, same))
+
+  pub rules_machine : (rules : List Rule) (e : Tree) {frame : Frame} → ((names : Names) (stay : Prog) → left names frame stay None ≡ try_rules names rules e Done stay) →
+      Opens set (λ rest. try_rules set.names rules e Done rest) (Ok (Start.Machine frame))
+  rules_machine rules e tries = record { by = λ rest. sym (tries set.names rest) }
 
   -- ---- rows that are functions of their elements
 

@@ -1,42 +1,42 @@
 -- How head and elements are evaluated, and the fixed point.
-use Rattle.std.proofs.Common.{◌≡◌, ℕ, suc, ◌+◌, ◌<◌, ◌≤◌, length, drop, get_or, drop-cons, arith, Bool, true, false, List, [], ◌∷◌, ◌++◌, Option, Some, None, Result, Ok, Err, refl, sym, subst}
-use Rattle.std.proofs.lemmas.List.{drop_all}
+use Rattle.std.proofs.Common.{◌≡◌, ◌∙◌, ℕ, suc, ◌+◌, ◌<◌, ◌≤◌, length, drop, take, get_or, drop-cons, arith, Bool, true, false, List, [], ◌∷◌, ◌++◌, Option, Some, None, Result, Ok, Err, refl, sym, subst, ap}
+use Rattle.std.proofs.lemmas.List.{drop_all, take_all, take_more}
 use Rattle.std.proofs.lemmas.Bool.{ltb-false}
 use Rattle.std.proofs.Math.Dec.{ltb}
-use Rattle.std.specs.Prelude.{IfOk}
+use Rattle.std.specs.Prelude.{unwrap_or}
 use Rattle.std.specs.Result.{IsErrAnd}
 use Rattle.expr_tree.specs.Tree.{Tree, integer, string, symbol, normal, call, size, depth}
 use Rattle.expr_tree.specs.declared.limits.Limits.{Limits}
 use Rattle.expr_tree.specs.Order.{same}
 use Rattle.expr_tree.proofs.Same.{tree_eq-true, tree_eq-refl}
+use Rattle.expr_tree.proofs.Trees.{elements-trees}
 use Rattle.expr_tree.specs.declared.limits.Stop.{Stop}
 use Rattle.semantics.specs.Names.{Names}
 use Rattle.semantics.specs.Definitions.{Attributes}
-use Rattle.semantics.specs.Program.{Prog, Ask, Check}
+use Rattle.semantics.specs.Program.{Prog, Ask}
 use Rattle.semantics.specs.Assemble.{attributes_of, is_asked, holds_first, holds_rest, ask_rest, ask_items, first_steps, spliced}
 use Rattle.semantics.specs.Pass.{pass, later_steps}
 use Rattle.semantics.specs.Play.{Setting, State, first_cause}
+use Rattle.builtin_names.specs.Attributes.{attributes_in}
 use Rattle.evaluation_steps.specs.declared.Halt.{Halt}
 use Rattle.evaluation_steps.specs.Leads.{Step}
 use Rattle.evaluation_steps.specs.Words.{Settled, Played, Reached, Led, Counted, FitsBy, Fits}
 use Rattle.evaluation_steps.specs.Stopping.{AreBounded}
 use Rattle.evaluation_steps.specs.Passed.{Passed}
-use Rattle.evaluation_steps.proofs.Laws.{went_lost, reached_here, reached_on, reached_look, reached_part, led_here, led_on, led_then, led_ask, led_check, ran_value, ran_check_out, settled_same, settled_large, settled_worn, settled_again_out, passed_again}
+use Rattle.evaluation_steps.proofs.Laws.{went_lost, played_check_out, reached_check, reached_here, reached_on, reached_look, reached_part, led_here, led_on, led_then, led_ask, ran_value, settled_same, settled_large, settled_worn, settled_again_out, passed_again}
 use Rattle.eval_seq.specs.declared.ending.Ending.{Ending}
-use Rattle.eval_seq.specs.Walks.{or_itself, Evaluates, Settles, Runs, PassOf, valued}
-use Rattle.eval_seq.specs.declared.assemble.Spliced.{Spliced}
-use Rattle.eval_seq.specs.Sequence.{attributes_seen, one_asked, asking, firsts, spliced_of, Turned, IsWithin}
-use Rattle.eval_seq.proofs.Walking.{goes_on, evaluated_of, ran_of, runs_value, runs_halt, runs_led, runs_ask, runs_ask_out, runs_then_out, runs_memory, evaluates_err, pass_on, pass_part_out, settles_halt}
+use Rattle.eval_seq.specs.Walks.{or_itself, Evaluates, Settles, Runs, PassOf, valued, halted}
+use Rattle.eval_seq.specs.declared.values.Values.{Values}
+use Rattle.eval_seq.specs.Sequence.{attributes_seen, one_asked, asking, evaluated, values_in, values_of, after_values, Turned, IsWithin}
+use Rattle.eval_seq.proofs.SymbolLaws.{pass_is}
+use Rattle.eval_seq.proofs.Walking.{goes_on, evaluated_of, ran_of, runs_value, runs_led, runs_ask, runs_ask_out, runs_then_out, runs_memory, evaluates_err, pass_on, pass_part_out, settles_halt}
 
 rest_is : (names : Names) (a : Attributes) (es done : List Tree) (k : List Tree → Prog) → ask_rest names a es done k ≡ asking names a (holds_rest a) es done k
 rest_is names a [] done k = refl
 rest_is names a (e ∷ es) done k = refl
 
-abbrev after_items : Names → Tree → Attributes → List Tree → (Tree × Attributes × List Tree → Prog) → Prog
-after_items names head a values k = Check (call head (spliced names a values)) (k (head, a, spliced names a values))
-
 abbrev after_attributes : Names → List Tree → Tree → Attributes → (Tree × Attributes × List Tree → Prog) → Prog
-after_attributes names items head a k = ask_items names a items (λ values. after_items names head a values k)
+after_attributes names items head a k = ask_items names a items (λ values. k (head, a, values))
 
 abbrev after_head : Names → List Tree → Tree → (Tree × Attributes × List Tree → Prog) → Prog
 after_head names items head k = attributes_of head (λ a. after_attributes names items head a k)
@@ -82,10 +82,26 @@ module _ {S : Type 0} {step : Step S} {set : Setting} {n : ℕ} where
       Runs step set n (one_asked set.names a held e) s st (Err x) st' z → Runs step set n (asking set.names a held (drop i items) done) s st (Err x) st' z
   item_out a held items i e done within is b = rw (drop-cons items i e within, sym is) (step_out a held e (drop (suc i) items) done b)
 
-  pub items_done : (a : Attributes) (held : Bool) (items : List Tree) (i : ℕ) (done : List Tree) {s : S} {st : State} → length items ≤ i → Runs step set n (asking set.names a held (drop i items) done) s st (Ok done) st s
-  items_done a held items i done past = rw (drop_all i items past) (runs_value ran_value)
+  -- want of memory once the value of an element stands
+  pub item_lost : (a : Attributes) (held : Bool) (items : List Tree) (i : ℕ) (e : Tree) (done : List Tree) {v : Tree} {s z : S} {st st' last : State} → i < length items → e ≡ get_or items i e →
+      Runs step set n (one_asked set.names a held e) s st (Ok v) st' z → Runs step set n (asking set.names a held (drop i items) done) s st (Err (Ending.Halt Halt.NoMemory)) last z
+  item_lost a held items i e done within is b = runs_led (led_item a held items i e done within is b) runs_memory
 
-  -- ---- head, elements and splicing
+  -- the values so far, with the next one
+  pub led_next : (a : Attributes) (held : Bool) (items : List Tree) (i : ℕ) (e : Tree) (values next : Option (List Tree)) (value : Option Tree) {s z : S} {st st' : State} → i < length items → e ≡ get_or items i e →
+      unwrap_or next (take i items ++ e ∷ []) ≡ unwrap_or values (take i items) ++ unwrap_or value e ∷ [] → Runs step set n (one_asked set.names a held e) s st (Ok (unwrap_or value e)) st' z →
+      Led step set n (asking set.names a held (drop i items) (unwrap_or values (take i items))) s st (asking set.names a (holds_rest a) (drop (i + 1) items) (unwrap_or next (take (i + 1) items))) st' z
+  led_next a held items i e values next value {s = s} {z = z} {st = st} {st' = st'} within is joined b =
+      let more : take (i + 1) items ≡ take i items ++ e ∷ [] = take_more items i e within ∙ ap (λ x. take i items ++ x ∷ []) (sym is) in
+      let t : unwrap_or next (take (i + 1) items) ≡ unwrap_or values (take i items) ++ unwrap_or value e ∷ [] = ap (λ xs. unwrap_or next xs) more ∙ joined in
+      subst (λ xs. Led step set n (asking set.names a held (drop i items) (unwrap_or values (take i items))) s st (asking set.names a (holds_rest a) (drop (i + 1) items) xs) st' z) (sym t)
+      (led_item a held items i e (unwrap_or values (take i items)) within is b)
+
+  pub items_done : (a : Attributes) (held : Bool) (items : List Tree) (i : ℕ) (values : Option (List Tree)) {s : S} {st : State} → length items ≤ i →
+      Runs step set n (asking set.names a held (drop i items) (unwrap_or values (take i items))) s st (Ok (unwrap_or values items)) st s
+  items_done a held items i values past = rw (drop_all i items past, take_all i items past) (runs_value ran_value)
+
+  -- ---- head and elements
 
   attributes_on : (items : List Tree) (head : Tree) {a : Attributes} {s : S} {st : State} → a ≡ attributes_seen set.names st.definitions head → Led step set n (after_head set.names items head) s st (after_attributes set.names items head a) st s
   attributes_on items (integer m) is = rw is led_here
@@ -93,45 +109,69 @@ module _ {S : Type 0} {step : Step S} {set : Setting} {n : ℕ} where
   attributes_on items (symbol i) is = rw is (record { on = λ k. reached_look })
   attributes_on items (normal h es) is = rw is led_here
 
-  pub first_head_out : (h : Tree) (items : List Tree) {x : Ending} {s z : S} {st st' : State} → Evaluates step set n h s st (Err x) st' z → Runs step set n (firsts set.names h items) s st (Err x) st' z
-  first_head_out h items b = runs_ask_out {q = λ v k. after_head set.names items v k} b
+  pub head_out : (h : Tree) (items : List Tree) {x : Ending} {s z : S} {st st' : State} → Evaluates step set n h s st (Err x) st' z → Runs step set n (evaluated set.names h items) s st (Err x) st' z
+  head_out h items b = runs_ask_out {q = λ v k. after_head set.names items v k} b
 
   head_on : (h : Tree) (items : List Tree) {head : Tree} {a : Attributes} {s z : S} {st st' : State} → Evaluates step set n h s st (Ok head) st' z → a ≡ attributes_seen set.names st'.definitions head →
-      Led step set n (firsts set.names h items) s st (after_attributes set.names items head a) st' z
+      Led step set n (evaluated set.names h items) s st (after_attributes set.names items head a) st' z
   head_on h items {head = head} b is = led_on (led_ask {q = λ v k. after_head set.names items v k} (evaluated_of b)) (attributes_on items head is)
 
-  pub first_items_out : (h : Tree) (items : List Tree) {head : Tree} {a : Attributes} {x : Ending} {s m z : S} {st st' st'' : State} → Evaluates step set n h s st (Ok head) st' m → a ≡ attributes_seen set.names st'.definitions head →
-      Runs step set n (ask_items set.names a items) m st' (Err x) st'' z → Runs step set n (firsts set.names h items) s st (Err x) st'' z
-  first_items_out h items {head = head} {a = a} b is c = runs_led (head_on h items b is) (runs_then_out {q = λ values k. after_items set.names head a values k} c)
+  pub items_out : (h : Tree) (items : List Tree) {head : Tree} {a : Attributes} {x : Ending} {s m z : S} {st st' st'' : State} → Evaluates step set n h s st (Ok head) st' m → a ≡ attributes_seen set.names st'.definitions head →
+      Runs step set n (ask_items set.names a items) m st' (Err x) st'' z → Runs step set n (evaluated set.names h items) s st (Err x) st'' z
+  items_out h items {head = head} {a = a} b is c = runs_led (head_on h items b is) (runs_then_out {q = λ values k. k (head, a, values)} c)
 
-  pub first_check_out : (h : Tree) (items : List Tree) {head : Tree} {a : Attributes} {values : List Tree} {x : Halt} {s m z : S} {st st' st'' : State} → Evaluates step set n h s st (Ok head) st' m → a ≡ attributes_seen set.names st'.definitions head →
-      Runs step set n (ask_items set.names a items) m st' (Ok values) st'' z → Fits set.limits (call head (spliced set.names a values)) (Err x) → Runs step set n (firsts set.names h items) s st (Err (Ending.Halt x)) st'' z
-  first_check_out h items {head = head} {a = a} {values = values} b is c f =
-      runs_led (led_on (head_on h items b is) (led_then {q = λ vs k. after_items set.names head a vs k} (ran_of c))) (runs_halt (ran_check_out {p = λ k. k (head, a, spliced set.names a values)} f))
+  pub values_done : (h : Tree) (items : List Tree) {head : Tree} {a : Attributes} {values : List Tree} {s m z : S} {st st' st'' : State} → Evaluates step set n h s st (Ok head) st' m → a ≡ attributes_seen set.names st'.definitions head →
+      Runs step set n (ask_items set.names a items) m st' (Ok values) st'' z → Runs step set n (evaluated set.names h items) s st (Ok (head, a, values)) st'' z
+  values_done h items {head = head} {a = a} b is c =
+      runs_led (led_on (head_on h items b is) (led_then {q = λ vs k. k (head, a, vs)} (ran_of c))) (runs_value ran_value)
 
-  pub first_done : (h : Tree) (items : List Tree) {head : Tree} {a : Attributes} {values es : List Tree} {u : Unit {0}} {s m z : S} {st st' st'' : State} → Evaluates step set n h s st (Ok head) st' m → a ≡ attributes_seen set.names st'.definitions head →
-      Runs step set n (ask_items set.names a items) m st' (Ok values) st'' z → es ≡ spliced set.names a values → Fits set.limits (call head es) (Ok u) → Runs step set n (firsts set.names h items) s st (Ok (head, a, es)) st'' z
-  first_done h items {head = head} {a = a} {values = values} b is c e f =
-      rw e (runs_led (led_on (head_on h items b is) (led_then {q = λ vs k. after_items set.names head a vs k} (ran_of c)))
-      (runs_led (led_check {p = λ k. k (head, a, spliced set.names a values)} (rw e at f)) (runs_value ran_value)))
+  pub values_err : (h : Tree) (items : List Tree) {p : (Tree × Attributes × List Tree → Prog) → Prog} {x : Ending} (r : Result Values Ending) {s z : S} {st st' : State} → IsErrAnd r (λ y. y ≡ x) →
+      Runs step set n p s st (Err x) st' z → Runs step set n p s st (values_of h items r) st' z
+  values_err h items (Ok v) i a = absurd i
+  values_err h items (Err y) i a = rw i a
 
-  -- want of memory once head and elements are evaluated
-  pub first_lost : (h : Tree) (items : List Tree) {head : Tree} {a : Attributes} {values : List Tree} {s m z : S} {st st' st'' last : State} → Evaluates step set n h s st (Ok head) st' m → a ≡ attributes_seen set.names st'.definitions head →
-      Runs step set n (ask_items set.names a items) m st' (Ok values) st'' z → Runs step set n (firsts set.names h items) s st (Err (Ending.Halt Halt.NoMemory)) last z
-  first_lost h items {head = head} {a = a} b is c = runs_led (led_on (head_on h items b is) (led_then {q = λ vs k. after_items set.names head a vs k} (ran_of c))) runs_memory
+  -- ---- splicing, and what follows
 
-  pub firsts_err : {p : (Tree × Attributes × List Tree → Prog) → Prog} {x : Ending} (r : Result Spliced Ending) {s z : S} {st st' : State} → IsErrAnd r (λ y. y ≡ x) → Runs step set n p s st (Err x) st' z → Runs step set n p s st (spliced_of r) st' z
-  firsts_err (Ok v) i a = absurd i
-  firsts_err (Err y) i a = rw i a
+  pub splice_out : (head : Tree) (a : Attributes) (values : List Tree) {x : Halt} {es : List Tree} {s : S} {st : State} → es ≡ spliced set.names a values → Fits set.limits (call head es) (Err x) →
+      PassOf step set n (after_values set.names (head, a, values)) s st (Err (Ending.Halt x)) st s
+  splice_out head a values e f = halted (played_check_out (rw e at f))
+
+  pub splice_on : (head : Tree) (a : Attributes) (values : List Tree) {es : List Tree} {u : Unit {0}} {r : Result Tree Ending} {s z : S} {st st' : State} → es ≡ spliced set.names a values → Fits set.limits (call head es) (Ok u) →
+      PassOf step set n (later_steps set.names head a es) s st r st' z → PassOf step set n (after_values set.names (head, a, values)) s st r st' z
+  splice_on head a values e f b = pass_on (reached_check (rw e at f)) (rw e at b)
+
+  -- new ones, or copies of the old ones
+  pub changed_is : (h : Tree) (items : List Tree) (v : Values) {head : Tree} {values : List Tree} {r : Result Tree Ending} {s z : S} {st st' : State} → head ≡ unwrap_or v.head h → values ≡ unwrap_or v.items items →
+      PassOf step set n (after_values set.names (head, attributes_in v.attrs, values)) s st r st' z → PassOf step set n (after_values set.names (values_in h items v)) s st r st' z
+  changed_is h items v {head = head} {values = values} {r = r} {s = s} {z = z} {st = st} {st' = st'} e f a =
+      let b = subst (λ x. PassOf step set n (after_values set.names (x, attributes_in v.attrs, values)) s st r st' z) e a in
+      subst (λ xs. PassOf step set n (after_values set.names (unwrap_or v.head h, attributes_in v.attrs, xs)) s st r st' z) f b
 
   -- ---- a pass over a normal expression
 
-  pub normal_out : (h : Tree) (items : List Tree) {x : Ending} {s z : S} {st st' : State} → Runs step set n (firsts set.names h items) s st (Err x) st' z → PassOf step set n (first_steps set.names h items (later_steps set.names)) s st (Err x) st' z
-  normal_out h items a = pass_part_out (λ t. later_steps set.names t.0 t.1 t.2) a
+  at_items : (h : Tree) {items es : List Tree} {r : Result Tree Ending} {s z : S} {st st' : State} → es ≡ items → PassOf step set n (first_steps set.names h es (later_steps set.names)) s st r st' z →
+      PassOf step set n (first_steps set.names h items (later_steps set.names)) s st r st' z
+  at_items h {r = r} {s = s} {z = z} {st = st} {st' = st'} is a = subst (λ xs. PassOf step set n (first_steps set.names h xs (later_steps set.names)) s st r st' z) is a
 
-  pub normal_on : (h : Tree) (items : List Tree) {head : Tree} {a : Attributes} {es : List Tree} {r : Result Tree Ending} {s m z : S} {st st' st'' : State} → Runs step set n (firsts set.names h items) s st (Ok (head, a, es)) st' m →
-      PassOf step set n (later_steps set.names head a es) m st' r st'' z → PassOf step set n (first_steps set.names h items (later_steps set.names)) s st r st'' z
-  normal_on h items b c = pass_on (reached_part (λ t. later_steps set.names t.0 t.1 t.2) (ran_of b)) c
+  pub normal_out : (h : Tree) {items es : List Tree} {x : Ending} {s z : S} {st st' : State} → es ≡ items → Runs step set n (evaluated set.names h es) s st (Err x) st' z →
+      PassOf step set n (first_steps set.names h items (later_steps set.names)) s st (Err x) st' z
+  normal_out h is a = at_items h is (pass_part_out (λ t. after_values set.names t) a)
+
+  pub normal_on : (h : Tree) {items es : List Tree} (v : Values) {r : Result Tree Ending} {s m z : S} {st st' st'' : State} → es ≡ items → Runs step set n (evaluated set.names h es) s st (Ok (values_in h es v)) st' m →
+      PassOf step set n (after_values set.names (values_in h es v)) m st' r st'' z → PassOf step set n (first_steps set.names h items (later_steps set.names)) s st r st'' z
+  normal_on h v is b c = at_items h is (pass_on (reached_part (λ t. after_values set.names t) (ran_of b)) c)
+
+  -- head and elements are as they were
+  pub normal_settled : (h : Tree) {items es : List Tree} (v : Values) {a : Attributes} {r : Result Tree Ending} {s m z : S} {st st' st'' : State} → es ≡ items → Runs step set n (evaluated set.names h es) s st (Ok (values_in h es v)) st' m →
+      values_in h es v ≡ (h, a, es) → PassOf step set n (after_values set.names (h, a, items)) m st' r st'' z → PassOf step set n (first_steps set.names h items (later_steps set.names)) s st r st'' z
+  normal_settled h v {a = a} {r = r} {m = m} {z = z} {st' = st'} {st'' = st''} is b same c =
+      let here = subst (λ xs. PassOf step set n (after_values set.names (h, a, xs)) m st' r st'' z) (sym is) c in
+      normal_on h v is b (subst (λ t. PassOf step set n (after_values set.names t) m st' r st'' z) (sym same) here)
+
+  pub pass_normal : (e h head : Tree) (items : List Tree) {r : Result Tree Ending} {s z : S} {st st' : State} → e ≡ call h items → head ≡ h → PassOf step set n (first_steps set.names head items (later_steps set.names)) s st r st' z →
+      PassOf step set n (pass set.names e) s st r st' z
+  pass_normal e h head items is f a =
+      pass_is (ap (pass set.names) is ∙ (ap (λ xs. first_steps set.names h xs (later_steps set.names)) (elements-trees items) ∙ ap (λ k. first_steps set.names k items (later_steps set.names)) (sym f))) a
 
   -- ---- one pass and its value
 
@@ -171,8 +211,7 @@ module _ {S : Type 0} {step : Step S} {set : Setting} {n : ℕ} where
   passed_settles x y = record { goes = goes_on x.on y.goes }
 
   pub settles_err_or : (e : Tree) (r : Result (Option Tree) Ending) {m : ℕ} {f : Tree} {x : Ending} {s z : S} {st st' : State} → IsErrAnd r (λ y. y ≡ x) → Settles step set n m f s st (Err x) st' z → Settles step set n m f s st (or_itself e r) st' z
-  settles_err_or e (Ok None) i a = absurd i
-  settles_err_or e (Ok (Some v)) i a = absurd i
+  settles_err_or e (Ok v) i a = absurd i
   settles_err_or e (Err y) i a = rw i a
 
   -- want of memory once the value stands
@@ -190,7 +229,3 @@ within_of {limits = limits} {h = h} {items = items} b f =
     let small : size (call h items) ≤ limits.size = ltb-false limits.size (size (call h items)) x.0 in
     let shallow : depth (call h items) ≤ limits.depth = ltb-false limits.depth (depth (call h items)) x.1 in
     record { small = omega (arith, small, b.size_is); shallow = omega (arith, shallow, b.depth_is) }
-
-pub within_err : (x : Ending) (r : Result Spliced Ending) → IsErrAnd r (λ y. y ≡ x) → IfOk r (λ s. IsWithin s.head s.items)
-within_err x (Ok v) i = absurd i
-within_err x (Err y) i = tt

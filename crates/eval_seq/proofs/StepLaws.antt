@@ -9,7 +9,7 @@ use Rattle.semantics.specs.declared.builtin.Builtin.{Builtin}
 use Rattle.semantics.specs.Names.{Names, is_name, role_of}
 use Rattle.semantics.specs.Rule.{Rule}
 use Rattle.semantics.specs.Definitions.{Attributes, Function, definition_of, has}
-use Rattle.semantics.specs.Program.{Prog, Done, Look, Outer, Access, Seen}
+use Rattle.semantics.specs.Program.{Prog, Done, Check, Look, Outer, Access, Seen}
 use Rattle.semantics.specs.Attempt.{try_rules}
 use Rattle.semantics.specs.Assemble.{flattened, threaded, sorted, check_all}
 use Rattle.semantics.specs.Names.{make}
@@ -18,18 +18,17 @@ use Rattle.semantics.specs.Sections.{unless_access}
 use Rattle.semantics.specs.Table.{row}
 use Rattle.semantics.specs.Pass.{symbol_rules, up_rules, down_rules, row_or_stay, built_in, last_steps, later_steps, left_standing, marked}
 use Rattle.semantics.specs.Play.{Setting, State, run, eval_at, seen}
-use Rattle.row_frames.specs.Frames.{left}
-use Rattle.row_frames.specs.declared.frame.Frame.{Frame}
 use Rattle.evaluation_steps.specs.Leads.{Step, Leads, here}
-use Rattle.evaluation_steps.specs.Words.{Reached}
-use Rattle.evaluation_steps.proofs.Laws.{reached_here, reached_on, played_done}
+use Rattle.evaluation_steps.specs.declared.Halt.{Halt}
+use Rattle.evaluation_steps.specs.Words.{Reached, Fits}
+use Rattle.evaluation_steps.proofs.Laws.{reached_here, reached_on, reached_check, played_check_out, played_done}
 use Rattle.eval_seq.specs.declared.ending.Ending.{Ending}
 use Rattle.eval_seq.specs.declared.machine.Start.{Start}
-use Rattle.eval_seq.specs.Walks.{PassOf, valued, Stepped}
+use Rattle.eval_seq.specs.Walks.{or_itself, PassOf, valued, halted, Stepped}
 use Rattle.eval_seq.specs.Driven.{driven, Begins, Opens}
-use Rattle.eval_seq.specs.Sequence.{Marks, Uses, Sees, stripped, last_of, unless_held, head_rules, head_row}
+use Rattle.eval_seq.specs.Sequence.{Marks, Uses, Sees, IsSettled, after_values, stripped, last_of, unless_held, head_rules, head_row}
 use Rattle.expr_tree.proofs.Trees.{elements-trees}
-use Rattle.eval_seq.proofs.Driving.{begins_on, begins_from, begins_none, begins_machine, begins_opens}
+use Rattle.eval_seq.proofs.Driving.{begins_on, begins_from, begins_none, begins_opens}
 use Rattle.eval_seq.proofs.Walking.{pass_on}
 use Rattle.eval_seq.proofs.SymbolLaws.{pass_is, marks_on, uses_on}
 
@@ -48,6 +47,15 @@ down_is names (integer m) items e rest = refl
 down_is names (string t) items e rest = refl
 down_is names (symbol i) items e rest = refl
 down_is names (normal h fs) items e rest = refl
+
+settled_is : (names : Names) (head : Tree) (a : Attributes) (items : List Tree) → IsSettled names head a items → after_values names (head, a, items) ≡ Check (call head items) (later_steps names head a items)
+settled_is names head a items z = ap (λ xs. Check (call head xs) (later_steps names head a xs)) z.no_sequence
+
+flat_is : (names : Names) (head : Tree) (a : Attributes) (items : List Tree) → IsSettled names head a items → flattened head a (stripped names a items) ≡ items
+flat_is names head a items z = ap (λ xs. flattened head a xs) z.no_wrapper ∙ z.is_flat
+
+pub settled_threads : (names : Names) (head : Tree) (a : Attributes) {items es : List Tree} {o p : Option (List Tree)} → es ≡ items → o ≡ threaded names head a es → o ≡ p → threaded names head a items ≡ p
+settled_threads names head a e t is = sym (t ∙ ap (λ xs. threaded names head a xs) e) ∙ is
 
 module _ {S : Type 0} {step : Step S} {set : Setting} {n : ℕ} where
   pub stepped_here : {s : S} {st : State} → Stepped step set n (λ rest. rest) s st (Ok None) st s
@@ -101,11 +109,12 @@ module _ {S : Type 0} {step : Step S} {set : Setting} {n : ℕ} where
       Reached step set n (head_rules set.names (symbol i) items e rest) s st (Outer (Access e) Done) st' s
   head_sent i items e m rest = marks_on m e (λ it. try_rules set.names it.definition.downs e Done rest)
 
-  pub head_machine : (i : Sym) (items : List Tree) (e : Tree) (rules : List Rule) {frame : Frame} {s : S} {st st' : State} → Marks set Function i st false st' → rules ≡ (definition_of set.names st.definitions i).downs →
-      ((names : Names) (stay : Prog) → left names frame stay None ≡ try_rules names rules e Done stay) → Begins step set n (λ rest. head_rules set.names (symbol i) items e rest) s st (Ok (Start.Machine frame)) st' s
-  head_machine i items e rules m is tries =
-      begins_machine {q = λ rest. try_rules set.names rules e Done rest}
-      (λ rest. reached_on (marks_on m e (λ it. try_rules set.names it.definition.downs e Done rest)) (reached_is (ap (λ rs. try_rules set.names rs e Done rest) (sym is)))) (tries set.names)
+  pub head_rules_begin : (i : Sym) (items : List Tree) (e : Tree) (rules : List Rule) {r : Result Start Ending} {s : S} {st st' : State} → Marks set Function i st false st' → rules ≡ (definition_of set.names st.definitions i).downs →
+      Opens set (λ rest. try_rules set.names rules e Done rest) r → Begins step set n (λ rest. head_rules set.names (symbol i) items e rest) s st r st' s
+  head_rules_begin i items e rules m is a =
+      begins_from
+      (λ rest. reached_on (marks_on m e (λ it. try_rules set.names it.definition.downs e Done rest)) (reached_is (ap (λ rs. try_rules set.names rs e Done rest) (sym is))))
+      (begins_opens a)
 
   pub head_function : (h : Tree) (fs : List Tree) (items : List Tree) (e : Tree) {r : Result Start Ending} {s : S} {st : State} → is_name set.names Builtin.Function h ≡ true →
       Opens set (λ rest. apply_function set.names rest fs items) r → Begins step set n (λ rest. head_rules set.names (call h fs) items e rest) s st r st s
@@ -137,11 +146,12 @@ module _ {S : Type 0} {step : Step S} {set : Setting} {n : ℕ} where
   sees_on {i = i} {st = st} {s = s} m q =
       record { on = subst (λ t. Leads step s (run set (eval_at set n) (Look i (λ it. marked it.shared (q it))) st) t s) (m.by (eval_at set n) q) here }
 
-  pub up_machine : (i : Sym) (e : Tree) (rules : List Rule) {frame : Frame} {s : S} {st st' : State} → Sees set i st st' → rules ≡ (definition_of set.names st.definitions i).ups →
-      ((names : Names) (stay : Prog) → left names frame stay None ≡ try_rules names rules e Done stay) → Begins step set n (λ rest. symbol_rules set.names (Some i) e rest) s st (Ok (Start.Machine frame)) st' s
-  up_machine i e rules m is tries =
-      begins_machine {q = λ rest. try_rules set.names rules e Done rest}
-      (λ rest. reached_on (sees_on m (λ it. try_rules set.names it.definition.ups e Done rest)) (reached_is (ap (λ rs. try_rules set.names rs e Done rest) (sym is)))) (tries set.names)
+  pub up_rules_begin : (i : Sym) (e : Tree) (rules : List Rule) {r : Result Start Ending} {s : S} {st st' : State} → Sees set i st st' → rules ≡ (definition_of set.names st.definitions i).ups →
+      Opens set (λ rest. try_rules set.names rules e Done rest) r → Begins step set n (λ rest. symbol_rules set.names (Some i) e rest) s st r st' s
+  up_rules_begin i e rules m is a =
+      begins_from
+      (λ rest. reached_on (sees_on m (λ it. try_rules set.names it.definition.ups e Done rest)) (reached_is (ap (λ rs. try_rules set.names rs e Done rest) (sym is))))
+      (begins_opens a)
 
   -- the next element
   pub ups_next : (items : List Tree) (i : ℕ) (x : Tree) (e : Tree) {s : S} {st : State} → i < length items → x ≡ get_or items i x → (rest : Prog) →
@@ -218,3 +228,30 @@ module _ {S : Type 0} {step : Step S} {set : Setting} {n : ℕ} where
       stepped_is (λ rest. ap (λ x. last_of set.names a x rest) e
       ∙ (ap (λ ys. last_steps set.names a ys (call h es) rest h) (elements-trees es)
       ∙ (ap (λ k. last_steps set.names a es (call h es) rest k) (sym f) ∙ ap (λ x. last_steps set.names a es x rest hd) (sym e)))) b
+
+  -- ---- where nothing changes
+
+  pub finish_or : {p : Prog → Prog} (w : Tree) (r : Result (Option Tree) Ending) {s z : S} {st st' : State} → Stepped step set n p s st r st' z → PassOf step set n (p (Done w)) s st (or_itself w r) st' z
+  finish_or w (Ok None) a = finish_stays refl a
+  finish_or w (Ok (Some v)) a = a.by (Done w)
+  finish_or w (Err x) a = a.by (Done w)
+
+  pub settled_out : (head : Tree) (a : Attributes) (items : List Tree) (whole : Tree) {x : Halt} {s : S} {st : State} → IsSettled set.names head a items → whole ≡ call head items → Fits set.limits whole (Err x) →
+      PassOf step set n (after_values set.names (head, a, items)) s st (Err (Ending.Halt x)) st s
+  settled_out head a items whole z w f = pass_is (settled_is set.names head a items z) (halted (played_check_out (rw w at f)))
+
+  pub settled_listed : (head : Tree) (a : Attributes) (items : List Tree) (whole : Tree) (each : List Tree) {u : Unit {0}} {r : Result Tree Ending} {s z : S} {st st' : State} → IsSettled set.names head a items → whole ≡ call head items →
+      Fits set.limits whole (Ok u) → threaded set.names head a items ≡ Some each → PassOf step set n (check_all each (Done (make set.names Builtin.List each))) s st r st' z →
+      PassOf step set n (after_values set.names (head, a, items)) s st r st' z
+  settled_listed head a items whole each z w f is b =
+      let threads = ap (λ xs. threaded set.names head a xs) (flat_is set.names head a items z) ∙ is in
+      pass_is (settled_is set.names head a items z) (pass_on (reached_check (rw w at f)) (later_listed head a items each threads b))
+
+  pub settled_on : (head : Tree) (a : Attributes) (items : List Tree) (whole : Tree) {u : Unit {0}} (r : Result (Option Tree) Ending) {s z : S} {st st' : State} → IsSettled set.names head a items → whole ≡ call head items →
+      Fits set.limits whole (Ok u) → threaded set.names head a items ≡ None → Stepped step set n (λ rest. last_steps set.names a items whole rest head) s st r st' z →
+      PassOf step set n (after_values set.names (head, a, items)) s st (or_itself whole r) st' z
+  settled_on head a items whole r z w f is b =
+      let threads = ap (λ xs. threaded set.names head a xs) (flat_is set.names head a items z) ∙ is in
+      let assembled = w ∙ ap (λ xs. call head xs) (sym (ap (λ xs. sorted a xs) (flat_is set.names head a items z) ∙ z.in_order)) in
+      let last = finish_or {p = λ rest. last_of set.names a whole rest} whole r (stepped_last a head items head whole w refl b) in
+      pass_is (settled_is set.names head a items z) (pass_on (reached_check (rw w at f)) (later_whole head a items whole whole threads assembled (sym (z.stands whole)) last))

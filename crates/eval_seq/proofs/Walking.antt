@@ -1,5 +1,5 @@
 -- How the parts of an evaluation follow one another where it may come to something that is not built.
-use Rattle.std.proofs.Common.{◌≡◌, ℕ, zero, suc, ◌-◌, ◌<◌, sub-one, List, Result, Ok, Err, refl, arith}
+use Rattle.std.proofs.Common.{◌≡◌, ℕ, zero, suc, ◌-◌, ◌<◌, sub-one, List, Option, Result, Ok, Err, refl, arith}
 use Rattle.std.specs.Result.{IsErrAnd}
 use Rattle.expr_tree.specs.Tree.{Tree}
 use Rattle.expr_tree.specs.declared.limits.Stop.{Stop}
@@ -13,7 +13,7 @@ use Rattle.evaluation_steps.specs.Words.{Evaluated, Settled, Reached, Ran, Led}
 use Rattle.evaluation_steps.proofs.Laws.{leads_on, ending_leads, went_on, went_out, went_after, went_locals, reached_played, played_memory, evaluated_out, settled_pass_out, settled_large}
 use Rattle.eval_seq.specs.declared.ending.Ending.{Ending}
 use Rattle.eval_seq.specs.declared.ending.Missing.{Missing}
-use Rattle.eval_seq.specs.Walks.{halting, in_part, Met, Goes, Evaluates, Settles, Runs, PassOf, valued, halted, large, unbuilt}
+use Rattle.eval_seq.specs.Walks.{halting, or_itself, in_part, Met, Goes, Evaluates, Settles, Runs, PassOf, valued, halted, large, unbuilt}
 
 module _ {S : Type 0} {step : Step S} {set : Setting} where
   pub met_on : {s m z : S} {t u : Play} {b : Missing} → Leads step s t u m → Met step set m u b z → Met step set s t b z
@@ -73,6 +73,10 @@ module _ {S : Type 0} {step : Step S} {set : Setting} {n : ℕ} where
   pub runs_err : {A : Type 0} {p : (A → Prog) → Prog} {x : Ending} {r : Result A Ending} {s z : S} {st st' : State} → IsErrAnd r (λ y. y ≡ x) → Runs step set n p s st (Err x) st' z → Runs step set n p s st r st' z
   runs_err {r = Ok v} i a = absurd i
   runs_err {r = Err y} i a = rw i a
+
+  pub runs_err_or : {A : Type 0} {p : (A → Prog) → Prog} (old : A) {x : Ending} (r : Result (Option A) Ending) {s z : S} {st st' : State} → IsErrAnd r (λ y. y ≡ x) → Runs step set n p s st (Err x) st' z → Runs step set n p s st (or_itself old r) st' z
+  runs_err_or old (Ok v) i a = absurd i
+  runs_err_or old (Err y) i a = rw i a
 
   pub pass_err : {p : Prog} {x : Ending} {r : Result Tree Ending} {s z : S} {st st' : State} → IsErrAnd r (λ y. y ≡ x) → PassOf step set n p s st (Err x) st' z → PassOf step set n p s st r st' z
   pass_err {r = Ok v} i a = absurd i

@@ -1,7 +1,9 @@
 -- The parts of a pass as the functions of the evaluator go through them.
 --     attributes_seen       the attributes of a head
 --     one_asked, asking     an element; the elements that are left
---     firsts, spliced_of    head, elements and splicing, and what they give on
+--     evaluated             head and elements; values_in, values_of are what they give on
+--     after_values          splicing, and what follows it
+--     IsSettled             no step that asks nothing changes the elements, threading aside
 --     AssembledBy           the call after stripping, flattening, threading and sorting
 --     last_of               the steps after them
 --     unless_held           the up rules of the symbols of the elements
@@ -16,12 +18,12 @@ use Rattle.semantics.specs.declared.builtin.Builtin.{Builtin}
 use Rattle.semantics.specs.Names.{Names, is_name}
 use Rattle.semantics.specs.Steps.{strip}
 use Rattle.semantics.specs.Definitions.{Definitions, Attributes, Share, Function, definition_of, has}
-use Rattle.semantics.specs.Program.{Prog, Done, Ask, Look, Outer, Access, Seen, Mode, Cell, Item, Service}
-use Rattle.semantics.specs.Assemble.{is_asked, ask_rest, first_steps, flattened, threaded, sorted}
+use Rattle.semantics.specs.Program.{Prog, Done, Ask, Look, Outer, Access, Check, Seen, Mode, Cell, Item, Service}
+use Rattle.semantics.specs.Assemble.{attributes_of, is_asked, ask_rest, ask_items, spliced, flattened, threaded, sorted}
 use Rattle.semantics.specs.Sections.{access_or}
 use Rattle.semantics.specs.Attempt.{try_rules}
 use Rattle.semantics.specs.Scoping.{apply_function}
-use Rattle.semantics.specs.Pass.{last_steps, left_standing, marked, up_rules, built_in}
+use Rattle.semantics.specs.Pass.{later_steps, last_steps, left_standing, marked, up_rules, built_in}
 use Rattle.semantics.specs.Play.{Setting, State, Evaluator, run, seen, too_large}
 use Rattle.builtin_names.specs.Attributes.{attributes_in}
 use Rattle.evaluation_steps.specs.Leads.{Step}
@@ -31,8 +33,8 @@ use Rattle.evaluation_steps.specs.Moves.{Shows, HasStopped}
 use Rattle.evaluation_steps.specs.declared.Halt.{Halt}
 use Rattle.eval_seq.specs.Walks.{Settles}
 use Rattle.eval_seq.specs.declared.ending.Ending.{Ending}
-use Rattle.eval_seq.specs.declared.assemble.Spliced.{Spliced}
 use Rattle.eval_seq.specs.declared.assemble.Assembled.{Assembled}
+use Rattle.eval_seq.specs.declared.values.Values.{Values}
 
 abbrev pub attributes_seen : Names → Definitions → Tree → Attributes
 attributes_seen names d (symbol s) = (definition_of names d s).attributes
@@ -47,15 +49,28 @@ asking names a held [] done k = k done
 asking names a held (e ∷ es) done k =
     elim (is_asked names a held e) [ true ↦ Ask e (λ v. ask_rest names a es (done ++ v ∷ []) k) | false ↦ ask_rest names a es (done ++ e ∷ []) k ]
 
-abbrev pub firsts : Names → Tree → List Tree → (Tree × Attributes × List Tree → Prog) → Prog
-firsts names h items k = first_steps names h items (λ head a es. k (head, a, es))
+abbrev pub evaluated : Names → Tree → List Tree → (Tree × Attributes × List Tree → Prog) → Prog
+evaluated names h items k = Ask h (λ head. attributes_of head (λ a. ask_items names a items (λ values. k (head, a, values))))
 
-abbrev pub spliced_of : Result Spliced Ending → Result (Tree × Attributes × List Tree) Ending
-spliced_of (Ok s) = Ok (s.head, attributes_in s.attrs, s.items)
-spliced_of (Err x) = Err x
+abbrev pub values_in : Tree → List Tree → Values → Tree × Attributes × List Tree
+values_in h items v = (unwrap_or v.head h, attributes_in v.attrs, unwrap_or v.items items)
+
+abbrev pub values_of : Tree → List Tree → Result Values Ending → Result (Tree × Attributes × List Tree) Ending
+values_of h items (Ok v) = Ok (values_in h items v)
+values_of h items (Err x) = Err x
+
+abbrev pub after_values : Names → Tree × Attributes × List Tree → Prog
+after_values names t = Check (call t.0 (spliced names t.1 t.2)) (later_steps names t.0 t.1 (spliced names t.1 t.2))
 
 abbrev pub stripped : Names → Attributes → List Tree → List Tree
 stripped names a items = elim (has Builtin.HoldAllComplete a) [ true ↦ items | false ↦ strip names items ]
+
+pub record IsSettled (names : Names) (head : Tree) (a : Attributes) (items : List Tree) : Type 0 where
+  pub no_sequence : spliced names a items ≡ items
+  pub no_wrapper : stripped names a items ≡ items
+  pub stands : (whole : Tree) → left_standing names a head items whole ≡ whole
+  pub is_flat : flattened head a items ≡ items
+  pub in_order : sorted a items ≡ items
 
 abbrev pub AssembledBy : Names → Tree → Attributes → List Tree → Assembled → Type 0
 AssembledBy names head a items (Assembled.Threaded each) = threaded names head a (flattened head a (stripped names a items)) ≡ Some each

@@ -1,11 +1,11 @@
 -- What the functions of the evaluator say, which may come to something that is not built.
---     halting, or_itself    a result as the words of evaluation steps have it; a value that may be left out where it is the expression itself
+--     halting, or_itself    a result as the words of evaluation steps have it; a value that may be left out where it is the old one itself
 --     Stands                a play at something that is not built
 --     Goes                  from a play to a result, or to something that is not built
 --     Evaluates, Settles, Runs      an expression; the same with so many changing passes left; a part of a program
 --     PassOf                a pass, whose result may be too large to be made
 --     Stepped               a step of the sequence: it has a result, or the rest follows
-use Rattle.std.specs.Prelude.{◌≡◌, ℕ, false, List, Option, Some, None, Result, Ok, Err}
+use Rattle.std.specs.Prelude.{◌≡◌, ℕ, false, List, Option, Some, None, Result, Ok, Err, unwrap_or}
 use Rattle.expr_tree.specs.Tree.{Tree}
 use Rattle.expr_tree.specs.declared.limits.Stop.{Stop}
 use Rattle.semantics.specs.declared.builtin.Builtin.{Builtin}
@@ -24,10 +24,9 @@ halting (Ok v) = Ok v
 halting (Err (Ending.Halt h)) = Err h
 halting (Err (Ending.Unbuilt b)) = Err Halt.NoMemory
 
-abbrev pub or_itself : {E : Type 0} → Tree → Result (Option Tree) E → Result Tree E
-or_itself e (Ok None) = Ok e
-or_itself e (Ok (Some v)) = Ok v
-or_itself e (Err x) = Err x
+abbrev pub or_itself : {A E : Type 0} → A → Result (Option A) E → Result A E
+or_itself old (Ok new) = Ok (unwrap_or new old)
+or_itself old (Err x) = Err x
 
 -- at something that is not built, or in a part of an evaluation that is
 pub data Stands (set : Setting) : Missing → Play → Type 0 where

@@ -1,5 +1,5 @@
 //! Evaluating: a cycle of functions, of which each says that the evaluation went on from a program to its end.
-ghost use Rattle.std.specs.Prelude.{IfOk};
+ghost use Rattle.std.specs.Prelude.{◌≡◌};
 ghost use Rattle.expr_tree.specs.Tree.{call};
 ghost use Rattle.semantics.specs.Pass as p;
 ghost use Rattle.semantics.specs.Assemble as a;
@@ -12,7 +12,7 @@ ghost use Rattle.frame_steps.specs.Setup.{setting_of};
 ghost use Rattle.eval_seq.specs.Setup.{state_of};
 ghost use Rattle.eval_seq.specs.Walks.{or_itself, Evaluates, Settles, Runs, PassOf, Stepped};
 ghost use Rattle.eval_seq.specs.Driven.{driven, Follows};
-ghost use Rattle.eval_seq.specs.Sequence.{last_of, one_asked, firsts, spliced_of, unless_held, Turned, IsWithin};
+ghost use Rattle.eval_seq.specs.Sequence.{last_of, one_asked, evaluated, after_values, values_in, values_of, unless_held, Turned, IsWithin, IsSettled};
 
 use crate::assemble::{Assembled, Spliced, assemble, listed};
 use crate::context::Going;
@@ -21,14 +21,15 @@ use crate::ending::Ending;
 use crate::machine::{Followed, Start};
 use crate::outward::Upcall;
 use crate::put_by::put_by;
+use crate::settled::is_settled;
 use crate::steps::{head_row_start, head_start, up_start};
 use crate::symbols::{attrs_under, own};
-use attr_steps::{holds_first, holds_rest, is_asked, spliced};
+use crate::values::{Values, new_or_copies, new_or_copy, new_or_old, with_next};
+use attr_steps::{holds_first, holds_rest, is_asked, spliced, threaded};
 use evaluation_steps::Halt;
 use expr_tree::{Attrs, Expr, Exprs, Node, Stop, symbol_of};
 use frame_steps::{Move, Scene};
 use frames_scope::Locals;
-use item_list::Items;
 use kernel_defs::Defs;
 
 /// Evaluates an expression, with `left` nested evaluations left. `None` is the expression itself.
@@ -142,7 +143,7 @@ fn pass<U: Upcall>(
         Node::Int(_) => Ok(None),
         Node::Str(_) => Ok(None),
         Node::Symbol(symbol) => own(scene, defs, up, going, *symbol),
-        Node::Normal(head, items) => normal(scene, left, defs, up, going, head, items.as_slice()),
+        Node::Normal(head, items) => normal(scene, left, defs, up, going, e, head, items),
     }
 }
 
@@ -154,20 +155,36 @@ fn normal<U: Upcall>(
     defs: &mut Defs,
     up: &mut U,
     going: &mut Going,
+    whole: &Expr,
     head: &Expr,
-    items: &[Expr],
+    items: &Exprs,
 ) -> Result<Option<Expr>, Ending>
-    requires { U.ready up.old }
-    ensures { PassOf (Guarded U.step U.ready) (setting_of scene.now) left (a.first_steps (names_in scene.now.names.now) head.now items.now (p.later_steps (names_in scene.now.names.now))) up.old (state_of defs.old going.old) (or_itself (call head.now items.now) result) (state_of defs.new going.new) up.new }
+    requires ready { U.ready up.old }
+    requires whole { whole.now ≡ call head.now items.now }
+    ensures { PassOf (Guarded U.step U.ready) (setting_of scene.now) left (a.first_steps (names_in scene.now.names.now) head.now items.now (p.later_steps (names_in scene.now.names.now))) up.old (state_of defs.old going.old) (or_itself whole.now result) (state_of defs.new going.new) up.new }
 {
-    let first = first_steps(scene, left, defs, up, going, head, items)?;
-    let value = later(scene, left, defs, up, going, first)?;
+    let slice = items.as_slice();
+    let values = values(scene, left, defs, up, going, head, slice)?;
+    if is_settled(scene.names, &values, head, slice) {
+        return settled(
+            scene,
+            left,
+            defs,
+            up,
+            going,
+            &values.attrs,
+            whole,
+            head,
+            items,
+        );
+    }
+    let value = changed(scene, left, defs, up, going, values, head, slice)?;
     Ok(Some(value))
 }
 
-/// Evaluates head and elements, and splices.
+/// Evaluates head and elements.
 #[cycle(evaluate)]
-pub(crate) fn first_steps<U: Upcall>(
+fn values<U: Upcall>(
     scene: &Scene,
     left: u32,
     defs: &mut Defs,
@@ -175,17 +192,18 @@ pub(crate) fn first_steps<U: Upcall>(
     going: &mut Going,
     head: &Expr,
     items: &[Expr],
-) -> Result<Spliced, Ending>
+) -> Result<Values, Ending>
     requires { U.ready up.old }
-    ensures runs { Runs (Guarded U.step U.ready) (setting_of scene.now) left (firsts (names_in scene.now.names.now) head.now items.now) up.old (state_of defs.old going.old) (spliced_of result) (state_of defs.new going.new) up.new }
-    ensures within { IfOk result (λ s. IsWithin s.head s.items) }
+    ensures { Runs (Guarded U.step U.ready) (setting_of scene.now) left (evaluated (names_in scene.now.names.now) head.now items.now) up.old (state_of defs.old going.old) (values_of head.now items.now result) (state_of defs.new going.new) up.new }
 {
-    let head = value_of(scene, left, defs, up, going, head)?;
-    let attrs = attrs_under(scene.names, defs, &head);
-    let values = elements(scene, left, defs, up, going, &attrs, items)?;
-    let items = spliced(scene.alloc, scene.names, &attrs, values)?;
-    check_call(&scene.limits, &head, items.as_slice())?;
-    Ok(Spliced { head, attrs, items })
+    let new = evaluate(scene, left, defs, up, going, head)?;
+    let attrs = attrs_under(scene.names, defs, new_or_old(&new, head));
+    let items = elements(scene, left, defs, up, going, &attrs, items)?;
+    Ok(Values {
+        head: new,
+        attrs,
+        items,
+    })
 }
 
 /// The value of an expression.
@@ -207,7 +225,7 @@ pub(crate) fn value_of<U: Upcall>(
     }
 }
 
-/// Evaluates the elements that are not held.
+/// Evaluates the elements that are not held. `None` is the elements themselves.
 #[cycle(evaluate)]
 fn elements<U: Upcall>(
     scene: &Scene,
@@ -217,21 +235,22 @@ fn elements<U: Upcall>(
     going: &mut Going,
     attrs: &Attrs,
     items: &[Expr],
-) -> Result<Exprs, Ending>
+) -> Result<Option<Exprs>, Ending>
     requires { U.ready up.old }
-    ensures { Runs (Guarded U.step U.ready) (setting_of scene.now) left (a.ask_items (names_in scene.now.names.now) (attributes_in attrs.now) items.now) up.old (state_of defs.old going.old) result (state_of defs.new going.new) up.new }
+    ensures { Runs (Guarded U.step U.ready) (setting_of scene.now) left (a.ask_items (names_in scene.now.names.now) (attributes_in attrs.now) items.now) up.old (state_of defs.old going.old) (or_itself items.now result) (state_of defs.new going.new) up.new }
 {
     let mut held = holds_first(attrs);
-    let mut done = Items::new(scene.alloc);
-    for item in items {
+    let mut values: Option<Exprs> = None;
+    for i in 0..items.len() {
+        let item = &items[i];
         let value = element(scene, left, defs, up, going, attrs, held, item)?;
-        done.push(value)?;
+        values = with_next(scene.alloc, values, &items[..i], item, value)?;
         held = holds_rest(attrs);
     }
-    Ok(done)
+    Ok(values)
 }
 
-/// Evaluates an element, unless it is held.
+/// Evaluates an element, unless it is held. `None` is the element itself.
 #[cycle(evaluate)]
 fn element<U: Upcall>(
     scene: &Scene,
@@ -242,14 +261,70 @@ fn element<U: Upcall>(
     attrs: &Attrs,
     held: bool,
     item: &Expr,
-) -> Result<Expr, Ending>
+) -> Result<Option<Expr>, Ending>
     requires { U.ready up.old }
-    ensures { Runs (Guarded U.step U.ready) (setting_of scene.now) left (one_asked (names_in scene.now.names.now) (attributes_in attrs.now) held item.now) up.old (state_of defs.old going.old) result (state_of defs.new going.new) up.new }
+    ensures { Runs (Guarded U.step U.ready) (setting_of scene.now) left (one_asked (names_in scene.now.names.now) (attributes_in attrs.now) held item.now) up.old (state_of defs.old going.old) (or_itself item.now result) (state_of defs.new going.new) up.new }
 {
     if !is_asked(scene.names, attrs, held, item) {
-        return Ok(item.copy(scene.alloc)?);
+        return Ok(None);
     }
-    value_of(scene, left, defs, up, going, item)
+    evaluate(scene, left, defs, up, going, item)
+}
+
+/// What follows where head and elements are as they were, and no step that asks nothing changes them, threading aside. `None` is
+/// the expression itself.
+#[cycle(evaluate)]
+fn settled<U: Upcall>(
+    scene: &Scene,
+    left: u32,
+    defs: &mut Defs,
+    up: &mut U,
+    going: &mut Going,
+    attrs: &Attrs,
+    whole: &Expr,
+    head: &Expr,
+    items: &Exprs,
+) -> Result<Option<Expr>, Ending>
+    requires ready { U.ready up.old }
+    requires whole { whole.now ≡ call head.now items.now }
+    requires settled { IsSettled (names_in scene.now.names.now) head.now (attributes_in attrs.now) items.now }
+    ensures { PassOf (Guarded U.step U.ready) (setting_of scene.now) left (after_values (names_in scene.now.names.now) (head.now, attributes_in attrs.now, items.now)) up.old (state_of defs.old going.old) (or_itself whole.now result) (state_of defs.new going.new) up.new }
+{
+    check(&scene.limits, whole)?;
+    match threaded(scene.alloc, scene.names, head, attrs, items.as_slice())? {
+        Some(each) => match listed(scene.alloc, scene.names, &scene.limits, each) {
+            Ok(value) => Ok(Some(value)),
+            Err(halt) => Err(Ending::Halt(halt)),
+        },
+        None => call_steps(scene, left, defs, up, going, attrs, whole, head, items),
+    }
+}
+
+/// What follows the values of head and elements: splicing, and the later steps.
+#[cycle(evaluate)]
+fn changed<U: Upcall>(
+    scene: &Scene,
+    left: u32,
+    defs: &mut Defs,
+    up: &mut U,
+    going: &mut Going,
+    values: Values,
+    head: &Expr,
+    items: &[Expr],
+) -> Result<Expr, Ending>
+    requires { U.ready up.old }
+    ensures { PassOf (Guarded U.step U.ready) (setting_of scene.now) left (after_values (names_in scene.now.names.now) (values_in head.now items.now values)) up.old (state_of defs.old going.old) result (state_of defs.new going.new) up.new }
+{
+    let Values {
+        head: new,
+        attrs,
+        items: new_items,
+    } = values;
+    let head = new_or_copy(scene.alloc, new, head)?;
+    let items = new_or_copies(scene.alloc, new_items, items)?;
+    let items = spliced(scene.alloc, scene.names, &attrs, items)?;
+    check_call(&scene.limits, &head, items.as_slice())?;
+    later(scene, left, defs, up, going, Spliced { head, attrs, items })
 }
 
 /// What follows splicing.

@@ -11,8 +11,10 @@ mod machine;
 mod outward;
 mod put_by;
 mod rows;
+mod settled;
 mod steps;
 mod symbols;
+mod values;
 
 pub use call::{Ended, Outcome, eval};
 pub use context::Context;

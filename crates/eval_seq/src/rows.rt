@@ -9,7 +9,7 @@ ghost use Rattle.builtin_names.specs.Results.{IsFaultOf, Works};
 ghost use Rattle.evaluation_steps.specs.Stopping.{AreBounded, HaltsFor};
 ghost use Rattle.evaluation_steps.specs.declared.Halt.{Halt};
 ghost use Rattle.frame_steps.specs.Setup.{setting_of};
-ghost use Rattle.eval_seq.specs.Built.{is_plain};
+ghost use Rattle.eval_seq.specs.Built.{is_plain, is_plain_form, is_plain_name};
 ghost use Rattle.eval_seq.specs.Driven.{Opens};
 
 use crate::ending::{Ending, Missing};
@@ -81,50 +81,66 @@ pub(crate) fn function_start(scene: &Scene, parts: &[Expr], args: &[Expr]) -> Re
 }
 
 /// Whether a row has no equation.
-pub(crate) fn is_plain(row: Builtin) -> bool
+fn is_plain(row: Builtin) -> bool
     ensures { result ≡ is_plain row }
 {
+    is_plain_form(row) || is_plain_name(row)
+}
+
+/// Whether it is a form without an equation.
+fn is_plain_form(row: Builtin) -> bool
+    ensures { result ≡ is_plain_form row }
+{
     match row {
-        Builtin::Hold => true,
-        Builtin::HoldComplete => true,
-        Builtin::HoldPattern => true,
-        Builtin::Unevaluated => true,
-        Builtin::Pattern => true,
-        Builtin::PatternTest => true,
-        Builtin::Condition => true,
-        Builtin::RuleDelayed => true,
-        Builtin::Rule => true,
-        Builtin::Function => true,
-        Builtin::Verbatim => true,
-        Builtin::Blank => true,
-        Builtin::BlankSequence => true,
-        Builtin::BlankNullSequence => true,
-        Builtin::Alternatives => true,
-        Builtin::List => true,
-        Builtin::Slot => true,
-        Builtin::SlotSequence => true,
-        Builtin::Sequence => true,
-        Builtin::FullForm => true,
-        Builtin::InputForm => true,
-        Builtin::Null => true,
-        Builtin::True => true,
-        Builtin::False => true,
-        Builtin::EvaluationObject => true,
-        Builtin::Method => true,
-        Builtin::Failed => true,
-        Builtin::Aborted => true,
-        Builtin::Flat => true,
-        Builtin::Orderless => true,
-        Builtin::Listable => true,
-        Builtin::HoldFirst => true,
-        Builtin::HoldRest => true,
-        Builtin::HoldAll => true,
-        Builtin::HoldAllComplete => true,
-        Builtin::SequenceHold => true,
-        Builtin::OneIdentity => true,
-        Builtin::Protected => true,
-        Builtin::KernelID => true,
-        Builtin::KernelCount => true,
+        Builtin::Hold
+        | Builtin::HoldComplete
+        | Builtin::HoldPattern
+        | Builtin::Unevaluated
+        | Builtin::Pattern
+        | Builtin::PatternTest
+        | Builtin::Condition
+        | Builtin::RuleDelayed
+        | Builtin::Rule
+        | Builtin::Function
+        | Builtin::Verbatim
+        | Builtin::Blank
+        | Builtin::BlankSequence
+        | Builtin::BlankNullSequence
+        | Builtin::Alternatives
+        | Builtin::List
+        | Builtin::Slot
+        | Builtin::SlotSequence
+        | Builtin::Sequence
+        | Builtin::FullForm
+        | Builtin::InputForm => true,
+        _ => false,
+    }
+}
+
+/// Whether it is a name that stands alone, and has no equation.
+fn is_plain_name(row: Builtin) -> bool
+    ensures { result ≡ is_plain_name row }
+{
+    match row {
+        Builtin::Null
+        | Builtin::True
+        | Builtin::False
+        | Builtin::EvaluationObject
+        | Builtin::Method
+        | Builtin::Failed
+        | Builtin::Aborted
+        | Builtin::Flat
+        | Builtin::Orderless
+        | Builtin::Listable
+        | Builtin::HoldFirst
+        | Builtin::HoldRest
+        | Builtin::HoldAll
+        | Builtin::HoldAllComplete
+        | Builtin::SequenceHold
+        | Builtin::OneIdentity
+        | Builtin::Protected
+        | Builtin::KernelID
+        | Builtin::KernelCount => true,
         _ => false,
     }
 }

@@ -1,10 +1,13 @@
 //! How the steps of a pass after splicing begin.
 ghost use Rattle.std.specs.Prelude.{◌≡◌, ℕ};
 ghost use Rattle.expr_tree.specs.Tree as tree;
+ghost use Rattle.semantics.specs.Attempt.{try_rules};
 ghost use Rattle.semantics.specs.Pass as p;
+ghost use Rattle.semantics.specs.Play.{Setting};
+ghost use Rattle.semantics.specs.Program.{Done};
 ghost use Rattle.builtin_names.specs.Named.{names_in};
 ghost use Rattle.frame_steps.specs.Setup.{setting_of};
-ghost use Rattle.eval_seq.specs.Driven.{Begins};
+ghost use Rattle.eval_seq.specs.Driven.{Begins, Opens};
 ghost use Rattle.eval_seq.specs.Outward.{Guarded};
 ghost use Rattle.eval_seq.specs.Setup.{state_of};
 ghost use Rattle.eval_seq.specs.Sequence.{head_row, head_rules, Sees};
@@ -20,8 +23,10 @@ use expr_tree::{Expr, Exprs, Node, Sym};
 use frame_steps::Scene;
 use kernel_defs::Defs;
 use row_frames::Frame;
+use rule_store::Rule;
 use semantics::Builtin;
 use shared_calls::ShareKind;
+use std::alloc::Global;
 
 /// Looks at a symbol, whose use is marked where it is shared.
 #[tactic(auto, using(crate::proofs::Marking::sees_steps))]
@@ -32,6 +37,17 @@ fn see(scene: &Scene, defs: &Defs, going: &mut Going, symbol: Sym)
     if defs.shared().kind_of(symbol).is_some() {
         going.used = true;
     }
+}
+
+/// How trying rules begins. Nothing begins where there are none.
+fn rules_start(alloc: Global, rules: &[Rule], whole: &Expr) -> Result<Start, Ending>
+    ensures { (set : Setting) → Opens set (λ rest. try_rules set.names rules.now whole.now Done rest) result }
+{
+    if rules.is_empty() {
+        return Ok(Start::Given(None));
+    }
+    let frame = Frame::of_rules(alloc, rules, whole)?;
+    Ok(Start::Machine(frame))
 }
 
 /// How trying the up rules of a symbol begins.
@@ -49,8 +65,7 @@ pub(crate) fn up_start<U: Upcall>(
         return Ok(Start::Given(None));
     };
     see(scene, defs, going, symbol);
-    let frame = Frame::of_rules(scene.alloc, defs.ups_of(symbol), whole)?;
-    Ok(Start::Machine(frame))
+    rules_start(scene.alloc, defs.ups_of(symbol), whole)
 }
 
 /// How trying the down rules of a symbol begins.
@@ -71,8 +86,7 @@ fn down_start<U: Upcall>(
         let value = send_access(scene, defs, up, going, access)?;
         return Ok(Start::Given(Some(value)));
     }
-    let frame = Frame::of_rules(scene.alloc, defs.downs_of(symbol), whole)?;
-    Ok(Start::Machine(frame))
+    rules_start(scene.alloc, defs.downs_of(symbol), whole)
 }
 
 /// How trying the rules of a head begins, or applying it where it is a `Function`.

@@ -1,19 +1,19 @@
-use Rattle.std.proofs.Common.{rules, arith, ◌≡◌, sym, ◌∙◌, Ok, Err}
+use Rattle.std.proofs.Common.{rules, arith, ◌≡◌, refl, sym, take, ◌∙◌, Ok, Err}
 use Rattle.std.specs.Prelude.{unwrap_or}
-use Rattle.expr_tree.specs.Tree.{integer, string, symbol, normal, trees, call}
-use Rattle.expr_tree.proofs.Trees.{elements-trees}
+use Rattle.expr_tree.specs.Tree.{integer, string, symbol, normal, trees}
 use Rattle.semantics.specs.Program.{Done, Ask, Within}
 use Rattle.builtin_names.specs.Attributes.{attributes_in}
+use Rattle.builtin_names.specs.Named.{names_in}
 use Rattle.builtin_names.proofs.Flags.{has_hold_all_complete}
 use Rattle.frames_scope.specs.Reading.{locals_in}
 use Rattle.evaluation_steps.proofs.Laws.{led_on, passed_here, passed_on, played_done, reached_here}
 use Rattle.eval_seq.specs.Walks.{valued}
-use Rattle.eval_seq.proofs.Walking.{evaluates_out, evaluates_deep, evaluates_err, pass_lost, runs_ask, runs_err, runs_lost, runs_led, settles_err, settles_pass_out, settles_value}
+use Rattle.eval_seq.proofs.Walking.{evaluates_out, evaluates_deep, evaluates_err, pass_err, pass_lost, runs_ask, runs_err_or, runs_lost, runs_led, settles_err, settles_pass_out, settles_value}
 use Rattle.eval_seq.proofs.Answered.{pass_answers}
 use Rattle.eval_seq.proofs.Driving.{begins_on, driven_given, driven_goes, driven_ends, driven_out, driven_halts, follows_asked, follows_asked_out, follows_within, follows_within_out, follows_turn, follows_turn_out, follows_done, follows_stays, follows_err, runs_turning, runs_turning_out, runs_put_back}
-use Rattle.eval_seq.proofs.StepLaws.{stepped_err, down_value, down_out, down_on, ups_out, ups_value, ups_on, ups_done, ups_held, ups_free, finish_value, finish_out, finish_stays, later_listed, later_whole, call_value, call_out, call_on, stepped_last, stepped_here}
-use Rattle.eval_seq.proofs.SymbolLaws.{pass_err_or}
-use Rattle.eval_seq.proofs.SequenceLaws.{runs_held, runs_asked, led_asking, led_item, item_out, items_done, first_head_out, first_items_out, first_check_out, first_done, turn_itself, turn_same, turn_out, turn_err, turn_large, turn_worn, turn_again_out, turn_again, passed_settles, settles_err_or, evaluates_lost, first_lost, firsts_err, normal_out, normal_on, within_of, within_err}
+use Rattle.eval_seq.proofs.StepLaws.{stepped_err, down_value, down_out, down_on, ups_out, ups_value, ups_on, ups_done, ups_held, ups_free, finish_value, finish_out, finish_stays, later_listed, later_whole, settled_threads, settled_out, settled_listed, settled_on, call_value, call_out, call_on, stepped_last, stepped_here}
+use Rattle.eval_seq.proofs.SymbolLaws.{pass_err_or, pass_lost_or}
+use Rattle.eval_seq.proofs.SequenceLaws.{runs_held, runs_asked, led_asking, led_next, item_out, item_lost, items_done, head_out, items_out, values_done, values_err, splice_out, splice_on, changed_is, turn_itself, turn_same, turn_out, turn_err, turn_large, turn_worn, turn_again_out, turn_again, passed_settles, settles_err_or, evaluates_lost, normal_out, normal_on, normal_settled, pass_normal}
 use Rattle.eval_seq.proofs.Readiness.{ready_evaluates, ready_runs, ready_turned, ready_stepped, ready_begins, ready_follows}
 use Rattle.eval_seq.proofs.evaluate.+evaluate.Goals as goal
 
@@ -113,114 +113,135 @@ pass-returns-in-Symbol g t c = let e : c.args.e.now ≡ symbol c.in-Symbol.symbo
 pub pass-returns-in-Normal : goal.pass-returns-in-Normal
 pass-returns-in-Normal g t c =
     let e : c.args.e.now ≡ normal c.in-Normal.head.value (trees c.in-Normal.items) = search rules in
-    rw (e, elements-trees c.in-Normal.items) (rw (c.deref.ensures, c.as_slice.ensures) at c.normal.ensures)
+    pass_normal c.args.e.now c.in-Normal.head.value c.deref.result.now c.in-Normal.items e c.deref.ensures c.normal.ensures
 
 -- normal
-pub normal-first_steps-requires : goal.normal-first_steps-requires
-normal-first_steps-requires g t c = search rules
+pub normal-values-requires : goal.normal-values-requires
+normal-values-requires g t c = let ready = c.requires.ready in search (rules, ready)
 
-pub normal-later-requires : goal.normal-later-requires
-normal-later-requires g t c =
-    let ready = ready_runs c.in_ok-first.ensures.runs c.requires in
-    let within = c.in_ok-first.ensures.within in
-    search (rules, ready, within)
+pub normal-settled-requires : goal.normal-settled-requires
+normal-settled-requires g t c =
+    let ready = ready_runs c.in_ok-values.ensures c.requires.ready in
+    let whole = c.requires.whole in
+    let settled = rw c.as_slice-slice.ensures at (c.is_settled.ensures.settled c.if-is_settled.true) in
+    search (rules, ready, whole, settled)
 
-pub normal-returns-in_err-first : goal.normal-returns-in_err-first
-normal-returns-in_err-first g t c =
-    pass_err_or (call c.args.head.now c.args.items.now) c.from_residual.result c.from_residual.ensures.1 (normal_out c.args.head.now c.args.items.now c.in_err-first.ensures.runs)
+pub normal-changed-requires : goal.normal-changed-requires
+normal-changed-requires g t c = let ready = ready_runs c.in_ok-values.ensures c.requires.ready in search (rules, ready)
+
+pub normal-returns-in_err-values : goal.normal-returns-in_err-values
+normal-returns-in_err-values g t c =
+    pass_err_or c.args.whole.now c.from_residual.result c.from_residual.ensures.1 (normal_out c.args.head.now c.as_slice-slice.ensures c.in_err-values.ensures)
+
+pub normal-returns-then-is_settled : goal.normal-returns-then-is_settled
+normal-returns-then-is_settled g t c =
+    normal_settled c.args.head.now c.in_ok-values.values c.as_slice-slice.ensures c.in_ok-values.ensures (c.is_settled.ensures.same c.if-is_settled.true) c.settled.ensures
 
 pub normal-returns-in_err-value : goal.normal-returns-in_err-value
 normal-returns-in_err-value g t c =
-    pass_err_or (call c.args.head.now c.args.items.now) c.from_residual-in_err-value.result c.from_residual-in_err-value.ensures.1
-    (normal_on c.args.head.now c.args.items.now c.in_ok-first.ensures.runs c.in_err-value.ensures)
+    pass_err_or c.args.whole.now c.from_residual-in_err-value.result c.from_residual-in_err-value.ensures.1
+    (normal_on c.args.head.now c.in_ok-values.values c.as_slice-slice.ensures c.in_ok-values.ensures c.in_err-value.ensures)
 
 pub normal-returns : goal.normal-returns
-normal-returns g t c = normal_on c.args.head.now c.args.items.now c.in_ok-first.ensures.runs c.in_ok-value.ensures
+normal-returns g t c = normal_on c.args.head.now c.in_ok-values.values c.as_slice-slice.ensures c.in_ok-values.ensures c.in_ok-value.ensures
 
--- first_steps
-pub first_steps-value_of-requires : goal.first_steps-value_of-requires
-first_steps-value_of-requires g t c = search rules
+-- values
+pub values-elements-requires : goal.values-elements-requires
+values-elements-requires g t c = let ready = ready_evaluates c.in_ok-new.ensures c.requires in search (rules, ready)
 
-pub first_steps-elements-requires : goal.first_steps-elements-requires
-first_steps-elements-requires g t c = let ready = ready_evaluates c.in_ok-head.ensures c.requires in search (rules, ready)
+pub values-returns-in_err-new : goal.values-returns-in_err-new
+values-returns-in_err-new g t c =
+    values_err c.args.head.now c.args.items.now c.from_residual.result c.from_residual.ensures.1 (head_out c.args.head.now c.args.items.now c.in_err-new.ensures)
 
-pub first_steps-returns-in_err-head-clause-runs : goal.first_steps-returns-in_err-head-clause-runs
-first_steps-returns-in_err-head-clause-runs g t c =
-    firsts_err c.from_residual.result c.from_residual.ensures.1
-    (first_head_out c.args.head.now c.args.items.now c.in_err-head.ensures)
+pub values-returns-in_err-items : goal.values-returns-in_err-items
+values-returns-in_err-items g t c =
+    values_err c.args.head.now c.args.items.now c.from_residual-in_err-items.result c.from_residual-in_err-items.ensures.1
+    (items_out c.args.head.now c.args.items.now c.in_ok-new.ensures (rw c.new_or_old.ensures at c.attrs_under-attrs.ensures) c.in_err-items.ensures)
 
-pub first_steps-returns-in_err-head-clause-within : goal.first_steps-returns-in_err-head-clause-within
-first_steps-returns-in_err-head-clause-within g t c = within_err _ c.from_residual.result c.from_residual.ensures.1
-
-pub first_steps-returns-in_err-values-clause-runs : goal.first_steps-returns-in_err-values-clause-runs
-first_steps-returns-in_err-values-clause-runs g t c =
-    firsts_err c.from_residual-in_err-values.result c.from_residual-in_err-values.ensures.1
-    (first_items_out c.args.head.now c.args.items.now c.in_ok-head.ensures c.attrs_under-attrs.ensures c.in_err-values.ensures)
-
-pub first_steps-returns-in_err-values-clause-within : goal.first_steps-returns-in_err-values-clause-within
-first_steps-returns-in_err-values-clause-within g t c = within_err _ c.from_residual-in_err-values.result c.from_residual-in_err-values.ensures.1
-
-pub first_steps-returns-in_err-items-clause-runs : goal.first_steps-returns-in_err-items-clause-runs
-first_steps-returns-in_err-items-clause-runs g t c =
-    firsts_err c.from_residual-in_err-items.result c.from_residual-in_err-items.ensures.1
-    (first_lost c.args.head.now c.args.items.now c.in_ok-head.ensures c.attrs_under-attrs.ensures c.in_ok-values.ensures)
-
-pub first_steps-returns-in_err-items-clause-within : goal.first_steps-returns-in_err-items-clause-within
-first_steps-returns-in_err-items-clause-within g t c = within_err _ c.from_residual-in_err-items.result c.from_residual-in_err-items.ensures.1
-
-pub first_steps-returns-in_err-check_call-clause-runs : goal.first_steps-returns-in_err-check_call-clause-runs
-first_steps-returns-in_err-check_call-clause-runs g t c =
-    firsts_err c.from_residual-in_err-check_call.result c.from_residual-in_err-check_call.ensures.1
-    (first_check_out c.args.head.now c.args.items.now c.in_ok-head.ensures c.attrs_under-attrs.ensures c.in_ok-values.ensures (rw (c.as_slice.ensures, c.in_ok-items.ensures) at c.in_err-check_call.ensures))
-
-pub first_steps-returns-in_err-check_call-clause-within : goal.first_steps-returns-in_err-check_call-clause-within
-first_steps-returns-in_err-check_call-clause-within g t c = within_err _ c.from_residual-in_err-check_call.result c.from_residual-in_err-check_call.ensures.1
-
-pub first_steps-returns-clause-runs : goal.first_steps-returns-clause-runs
-first_steps-returns-clause-runs g t c = first_done c.args.head.now c.args.items.now c.in_ok-head.ensures c.attrs_under-attrs.ensures c.in_ok-values.ensures c.in_ok-items.ensures (rw c.as_slice.ensures at c.in_ok-check_call.ensures)
-
-pub first_steps-returns-clause-within : goal.first_steps-returns-clause-within
-first_steps-returns-clause-within g t c = within_of c.args.scene.now.bounded (rw c.as_slice.ensures at c.in_ok-check_call.ensures)
+pub values-returns : goal.values-returns
+values-returns g t c = values_done c.args.head.now c.args.items.now c.in_ok-new.ensures (rw c.new_or_old.ensures at c.attrs_under-attrs.ensures) c.in_ok-items.ensures
 
 -- elements
-pub elements-loop-item-init : goal.elements-loop-item-init
-elements-loop-item-init g t c = record { led = rw (c.holds_first-held.ensures, c.new-done.ensures) (led_asking (attributes_in c.args.attrs.now) c.args.items.now); ready = c.requires }
+pub elements-loop-i-init : goal.elements-loop-i-init
+elements-loop-i-init g t c = record { led = rw c.holds_first-held.ensures (led_asking (attributes_in c.args.attrs.now) c.args.items.now); ready = c.requires }
 
 pub elements-returns-in_err-value : goal.elements-returns-in_err-value
 elements-returns-in_err-value g t c =
-    runs_led c.loop-item.invariant.led
-    (runs_err c.from_residual.ensures.1 (item_out (attributes_in c.args.attrs.now) c.loop-item.held c.args.items.now c.loop-item.item-index c.item-item.result c.loop-item.done c.loop-item-test.true c.item-item.is c.in_err-value.ensures))
+    runs_led c.loop-i.invariant.led
+    (runs_err_or c.args.items.now c.from_residual.result c.from_residual.ensures.1
+    (item_out (attributes_in c.args.attrs.now) c.loop-i.held c.args.items.now c.loop-i.i c.index-items-i.result (unwrap_or c.loop-i.values (take c.loop-i.i c.args.items.now)) c.loop-i-test.true c.index-items-i.is c.in_err-value.ensures))
 
-pub elements-returns-in_err-push : goal.elements-returns-in_err-push
-elements-returns-in_err-push g t c =
-    runs_led c.loop-item.invariant.led
-    (runs_led (led_item (attributes_in c.args.attrs.now) c.loop-item.held c.args.items.now c.loop-item.item-index c.item-item.result c.loop-item.done c.loop-item-test.true c.item-item.is c.in_ok-value.ensures) (runs_lost c.from_residual-in_err-push.ensures.1))
+pub elements-returns-in_err-values : goal.elements-returns-in_err-values
+elements-returns-in_err-values g t c =
+    runs_led c.loop-i.invariant.led
+    (runs_err_or c.args.items.now c.from_residual-in_err-values.result c.from_residual-in_err-values.ensures.1
+    (item_lost (attributes_in c.args.attrs.now) c.loop-i.held c.args.items.now c.loop-i.i c.index-items-i.result (unwrap_or c.loop-i.values (take c.loop-i.i c.args.items.now)) c.loop-i-test.true c.index-items-i.is c.in_ok-value.ensures))
 
-pub elements-loop-item-preserved : goal.elements-loop-item-preserved
-elements-loop-item-preserved g t c = record {
-  led = led_on c.loop-item.invariant.led
-      (rw (c.holds_rest-held.ensures, c.in_ok-push.ensures.ok) (led_item (attributes_in c.args.attrs.now) c.loop-item.held c.args.items.now c.loop-item.item-index c.item-item.result c.loop-item.done c.loop-item-test.true c.item-item.is c.in_ok-value.ensures));
-  ready = ready_runs c.in_ok-value.ensures c.loop-item.invariant.ready;
+pub elements-loop-i-preserved : goal.elements-loop-i-preserved
+elements-loop-i-preserved g t c = record {
+  led = led_on c.loop-i.invariant.led
+      (rw c.holds_rest-held.ensures
+      (led_next (attributes_in c.args.attrs.now) c.loop-i.held c.args.items.now c.loop-i.i c.index-items-i.result c.loop-i.values c.in_ok-values.values c.in_ok-value.value c.loop-i-test.true c.index-items-i.is c.in_ok-values.ensures c.in_ok-value.ensures));
+  ready = ready_runs c.in_ok-value.ensures c.loop-i.invariant.ready;
 }
 
-pub elements-returns : goal.elements-returns
-elements-returns g t c = runs_led c.loop-item.invariant.led (items_done (attributes_in c.args.attrs.now) c.loop-item.held c.args.items.now c.loop-item.item-index c.loop-item.done c.loop-item-test.false)
-
 pub elements-element-requires : goal.elements-element-requires
-elements-element-requires g t c = let ready = c.loop-item.invariant.ready in search (rules, ready)
+elements-element-requires g t c = let ready = c.loop-i.invariant.ready in search (rules, ready)
+
+pub elements-returns : goal.elements-returns
+elements-returns g t c = runs_led c.loop-i.invariant.led (items_done (attributes_in c.args.attrs.now) c.loop-i.held c.args.items.now c.loop-i.i c.loop-i.values c.loop-i-test.false)
 
 -- element
-pub element-value_of-requires : goal.element-value_of-requires
-element-value_of-requires g t c = search rules
-
-pub element-returns-in_err-copy : goal.element-returns-in_err-copy
-element-returns-in_err-copy g t c = runs_lost c.from_residual.ensures.1
-
 pub element-returns-then-not-is_asked : goal.element-returns-then-not-is_asked
-element-returns-then-not-is_asked g t c = runs_held (attributes_in c.args.attrs.now) c.args.held c.args.item.now (sym c.if-not-is_asked.ensures) c.in_ok-copy.ensures
+element-returns-then-not-is_asked g t c = runs_held (attributes_in c.args.attrs.now) c.args.held c.args.item.now (sym c.if-not-is_asked.ensures) refl
 
 pub element-returns : goal.element-returns
-element-returns g t c = runs_asked (attributes_in c.args.attrs.now) c.args.held c.args.item.now (sym c.if-not-is_asked.ensures) c.value_of.ensures
+element-returns g t c = runs_asked (attributes_in c.args.attrs.now) c.args.held c.args.item.now (sym c.if-not-is_asked.ensures) c.evaluate.ensures
+
+-- settled
+pub settled-returns-in_err-check : goal.settled-returns-in_err-check
+settled-returns-in_err-check g t c =
+    pass_err_or c.args.whole.now c.from_residual.result c.from_residual.ensures.1
+    (settled_out c.args.head.now (attributes_in c.args.attrs.now) c.args.items.now c.args.whole.now c.requires.settled c.requires.whole c.in_err-check.ensures)
+
+pub settled-returns-in_err-each : goal.settled-returns-in_err-each
+settled-returns-in_err-each g t c = pass_lost_or c.args.whole.now c.from_residual-in_err-each.result c.from_residual-in_err-each.ensures.1
+
+pub settled-returns-in-Ok : goal.settled-returns-in-Ok
+settled-returns-in-Ok g t c =
+    settled_listed c.args.head.now (attributes_in c.args.attrs.now) c.args.items.now c.args.whole.now c.in-Some.each c.requires.settled c.requires.whole c.in_ok-check.ensures
+    (settled_threads (names_in c.args.scene.now.names.now) c.args.head.now (attributes_in c.args.attrs.now) c.as_slice.ensures c.in_ok-each.ensures c.in-Some.is) (pass_answers (Ok c.in-Ok.value) c.in-Ok.ensures)
+
+pub settled-returns-in-Err : goal.settled-returns-in-Err
+settled-returns-in-Err g t c =
+    settled_listed c.args.head.now (attributes_in c.args.attrs.now) c.args.items.now c.args.whole.now c.in-Some.each c.requires.settled c.requires.whole c.in_ok-check.ensures
+    (settled_threads (names_in c.args.scene.now.names.now) c.args.head.now (attributes_in c.args.attrs.now) c.as_slice.ensures c.in_ok-each.ensures c.in-Some.is) (pass_answers (Err c.in-Err.halt) c.in-Err.ensures)
+
+pub settled-returns-in-None : goal.settled-returns-in-None
+settled-returns-in-None g t c =
+    settled_on c.args.head.now (attributes_in c.args.attrs.now) c.args.items.now c.args.whole.now c.call_steps.result c.requires.settled c.requires.whole c.in_ok-check.ensures
+    (settled_threads (names_in c.args.scene.now.names.now) c.args.head.now (attributes_in c.args.attrs.now) c.as_slice.ensures c.in_ok-each.ensures c.in-None.is) c.call_steps.ensures
+
+-- changed
+pub changed-returns-in_err-head : goal.changed-returns-in_err-head
+changed-returns-in_err-head g t c = pass_lost c.from_residual.ensures.1
+
+pub changed-returns-in_err-items : goal.changed-returns-in_err-items
+changed-returns-in_err-items g t c = pass_lost c.from_residual-in_err-items.ensures.1
+
+pub changed-returns-in_err-items-2 : goal.changed-returns-in_err-items-2
+changed-returns-in_err-items-2 g t c = pass_lost c.from_residual-in_err-items-2.ensures.1
+
+pub changed-returns-in_err-check_call : goal.changed-returns-in_err-check_call
+changed-returns-in_err-check_call g t c =
+    pass_err c.from_residual-in_err-check_call.ensures.1
+    (changed_is c.args.head.now c.args.items.now c.args.values c.in_ok-head.ensures c.in_ok-items.ensures
+    (splice_out c.in_ok-head.head (attributes_in c.args.values.attrs) c.in_ok-items.items c.in_ok-items-2.ensures (rw c.as_slice.ensures at c.in_err-check_call.ensures)))
+
+pub changed-returns : goal.changed-returns
+changed-returns g t c =
+    changed_is c.args.head.now c.args.items.now c.args.values c.in_ok-head.ensures c.in_ok-items.ensures
+    (splice_on c.in_ok-head.head (attributes_in c.args.values.attrs) c.in_ok-items.items c.in_ok-items-2.ensures (rw c.as_slice.ensures at c.in_ok-check_call.ensures) c.later.ensures)
 
 -- what each call needs
 pub evaluate-settle-requires : goal.evaluate-settle-requires
@@ -240,9 +261,6 @@ turn-pass-requires g t c = search rules
 
 pub pass-own-requires : goal.pass-own-requires
 pass-own-requires g t c = search rules
-
-pub pass-normal-requires : goal.pass-normal-requires
-pass-normal-requires g t c = search rules
 
 pub settle-overflow_sub-changes : goal.settle-overflow_sub-changes
 settle-overflow_sub-changes g t c = let b = rw c.in-Some.is at c.in_ok-value.ensures in let some = b.by.0 in omega (arith, some)

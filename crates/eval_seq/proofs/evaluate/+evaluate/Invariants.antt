@@ -1,4 +1,5 @@
-use Rattle.std.proofs.Common.{◌≡◌, ◌+◌, ◌*◌, false, drop}
+use Rattle.std.proofs.Common.{◌≡◌, ◌+◌, ◌*◌, false, drop, take}
+use Rattle.std.specs.Prelude.{unwrap_or}
 use Rattle.semantics.specs.Assemble.{ask_items}
 use Rattle.semantics.specs.Pass.{up_rules}
 use Rattle.semantics.specs.Program.{Prog}
@@ -15,58 +16,64 @@ use Rattle.row_frames.specs.Frames.{left, questions}
 use Rattle.eval_seq.proofs.evaluate.+evaluate.Given as goal
 
 abbrev pub decreases-evaluate : goal.decreases-evaluate
-decreases-evaluate g l = 14 * l.left + 0
+decreases-evaluate g l = 15 * l.left + 0
 
 abbrev pub decreases-value_of : goal.decreases-value_of
-decreases-value_of g l = 14 * l.left + 1
+decreases-value_of g l = 15 * l.left + 1
 
 abbrev pub decreases-element : goal.decreases-element
-decreases-element g l = 14 * l.left + 2
+decreases-element g l = 15 * l.left + 1
 
 abbrev pub decreases-elements : goal.decreases-elements
-decreases-elements g l = 14 * l.left + 3
+decreases-elements g l = 15 * l.left + 2
 
-abbrev pub decreases-first_steps : goal.decreases-first_steps
-decreases-first_steps g l = 14 * l.left + 4
+abbrev pub decreases-values : goal.decreases-values
+decreases-values g l = 15 * l.left + 3
 
 abbrev pub decreases-value_within : goal.decreases-value_within
-decreases-value_within g l = 14 * l.left + 2
+decreases-value_within g l = 15 * l.left + 2
 
 abbrev pub decreases-follow : goal.decreases-follow
-decreases-follow g l = 14 * l.left + 3
+decreases-follow g l = 15 * l.left + 3
 
 abbrev pub decreases-drive : goal.decreases-drive
-decreases-drive g l = 14 * l.left + 4
+decreases-drive g l = 15 * l.left + 4
 
 abbrev pub decreases-up_steps : goal.decreases-up_steps
-decreases-up_steps g l = 14 * l.left + 5
+decreases-up_steps g l = 15 * l.left + 5
 
 abbrev pub decreases-down_steps : goal.decreases-down_steps
-decreases-down_steps g l = 14 * l.left + 5
+decreases-down_steps g l = 15 * l.left + 5
 
 abbrev pub decreases-call_steps : goal.decreases-call_steps
-decreases-call_steps g l = 14 * l.left + 6
+decreases-call_steps g l = 15 * l.left + 6
 
 abbrev pub decreases-last_steps : goal.decreases-last_steps
-decreases-last_steps g l = 14 * l.left + 7
+decreases-last_steps g l = 15 * l.left + 7
 
 abbrev pub decreases-later : goal.decreases-later
-decreases-later g l = 14 * l.left + 8
+decreases-later g l = 15 * l.left + 8
+
+abbrev pub decreases-settled : goal.decreases-settled
+decreases-settled g l = 15 * l.left + 7
+
+abbrev pub decreases-changed : goal.decreases-changed
+decreases-changed g l = 15 * l.left + 9
 
 abbrev pub decreases-normal : goal.decreases-normal
-decreases-normal g l = 14 * l.left + 9
+decreases-normal g l = 15 * l.left + 10
 
 abbrev pub decreases-pass : goal.decreases-pass
-decreases-pass g l = 14 * l.left + 10
+decreases-pass g l = 15 * l.left + 11
 
 abbrev pub decreases-turn : goal.decreases-turn
-decreases-turn g l = 14 * l.left + 11
+decreases-turn g l = 15 * l.left + 12
 
 abbrev pub decreases-settle_rest : goal.decreases-settle_rest
-decreases-settle_rest g l = 14 * l.left + 12
+decreases-settle_rest g l = 15 * l.left + 13
 
 abbrev pub decreases-settle : goal.decreases-settle
-decreases-settle g l = 14 * l.left + 13
+decreases-settle g l = 15 * l.left + 14
 
 abbrev pub invariant-settle_rest-passes : goal.invariant-settle_rest-passes
 invariant-settle_rest-passes g l = record {
@@ -77,10 +84,10 @@ invariant-settle_rest-passes g l = record {
 abbrev pub decreases-settle_rest-passes : goal.decreases-settle_rest-passes
 decreases-settle_rest-passes g l = l.changes
 
-abbrev pub invariant-elements-loop-item : goal.invariant-elements-loop-item
-invariant-elements-loop-item g l = record {
+abbrev pub invariant-elements-loop-i : goal.invariant-elements-loop-i
+invariant-elements-loop-i g l = record {
   led : Led (Guarded g.U.Upcall.step g.U.Upcall.ready) (setting_of l.scene) l.left (ask_items (names_in l.scene.names.now) (attributes_in l.attrs) l.items) l.fn.up (state_of l.fn.defs l.fn.going)
-      (asking (names_in l.scene.names.now) (attributes_in l.attrs) l.held (drop l.item-index l.items) l.done) (state_of l.defs l.going) l.up;
+      (asking (names_in l.scene.names.now) (attributes_in l.attrs) l.held (drop l.i l.items) (unwrap_or l.values (take l.i l.items))) (state_of l.defs l.going) l.up;
   ready : g.U.Upcall.ready l.up;
 }
 
