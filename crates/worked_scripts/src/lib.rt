@@ -8,6 +8,10 @@ mod nesting;
 #[cfg(test)]
 mod page;
 #[cfg(test)]
+mod removing;
+#[cfg(test)]
+mod rewriting;
+#[cfg(test)]
 mod row;
 #[cfg(test)]
 mod run;

@@ -1,6 +1,6 @@
 //! The rows, run.
 use crate::row::Row;
-use crate::{edges, page, scripts};
+use crate::{edges, page, removing, rewriting, scripts};
 use port_io::{Bytes, Calls, MemSink, MemSource};
 use script_run::{Status, run_alone};
 use std::alloc::Global;
@@ -114,6 +114,20 @@ fn the_examples_of_the_page_hold(rt: HostRuntime) -> Result<(), Fail> {
 #[test]
 fn the_edges_hold(rt: HostRuntime) -> Result<(), Fail> {
     let report = differing(rt.alloc(), edges::tables().as_slice())?;
+    assert_eq!(rt; report.as_str(), "");
+    Ok(())
+}
+
+#[test]
+fn replacing_holds(rt: HostRuntime) -> Result<(), Fail> {
+    let report = differing(rt.alloc(), rewriting::tables().as_slice())?;
+    assert_eq!(rt; report.as_str(), "");
+    Ok(())
+}
+
+#[test]
+fn taking_away_holds(rt: HostRuntime) -> Result<(), Fail> {
+    let report = differing(rt.alloc(), removing::tables().as_slice())?;
     assert_eq!(rt; report.as_str(), "");
     Ok(())
 }
