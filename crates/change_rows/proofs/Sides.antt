@@ -15,11 +15,15 @@ use Rattle.expr_tree.specs.declared.attrs.Attrs.{Attrs}
 use Rattle.change_rows.specs.declared.assignment.Assignment.{Assignment}
 use Rattle.change_rows.specs.declared.assignment.Phase.{Phase}
 use Rattle.change_rows.specs.declared.elements.Elements.{Elements}
+use Rattle.change_rows.specs.declared.left_call.Left.{Left}
 use Rattle.change_rows.specs.Assigning.{assembled, attributes_of_head, gone_on, headed_by, left_assignment, left_phase}
 use Rattle.change_rows.proofs.Going.{Leads, onward, same_program}
 
-pub evaluated_goes : {set : Setting} {p : (Tree → Prog) → Prog} {l : Tree} (k : Tree → Prog) {d : Definitions} {used : Bool} → Evaluates set p (Ok l) → Leads set (p k) d used (k l) d used
+pub evaluated_goes : {set : Setting} {p : (Tree → Prog) → Prog} {l : Tree} (k : Tree → Prog) {d : Definitions} {used : Bool} → Evaluates set p (Ok (Left.Whole l)) → Leads set (p k) d used (k l) d used
 evaluated_goes k {d = d} {used = used} h = record { by = λ ev steps o. h.by k ev (state_at d used steps o) }
+
+pub large_goes : {set : Setting} {p : (Tree → Prog) → Prog} {e : Tree} (k : Tree → Prog) {d : Definitions} {used : Bool} (h : Evaluates set p (Ok (Left.Large e))) → Leads set (p k) d used (k h.by.0) d used
+large_goes k {d = d} {used = used} h = record { by = λ ev steps o. h.by.2 k ev (state_at d used steps o) }
 
 -- ---- the attributes of the head
 

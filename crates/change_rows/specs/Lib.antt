@@ -5,6 +5,7 @@ pub mod Shapes
 pub mod Single
 pub mod Renewing
 pub mod Unsetting
+pub mod Larger
 pub mod Assigning
 pub mod Left
 pub mod Effects

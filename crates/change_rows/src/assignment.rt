@@ -7,6 +7,7 @@ ghost use Rattle.builtin_names.specs.Attributes.{attributes_in};
 ghost use Rattle.builtin_names.specs.Named.{HasBuiltins, names_in};
 ghost use Rattle.frame_steps.specs.Setup.{setting_of};
 ghost use Rattle.frame_steps.specs.Steps.{Falls, Starts, Stepped};
+ghost use Rattle.change_rows.specs.Larger.{Replaces};
 ghost use Rattle.change_rows.specs.Left.{left};
 ghost use Rattle.change_rows.specs.declared.assignment.Phase.{Phase};
 ghost use Rattle.change_rows.specs.declared.change.Change.{Change};
@@ -15,7 +16,8 @@ ghost use Rattle.change_rows.specs.Assigning.{asked_in, assembled, assigned, att
 use crate::assign::{asks_right, assign_or_fail};
 use crate::change::{Change, done_with};
 use crate::elements::Elements;
-use crate::left_call::evaluated;
+use crate::large::unset_large;
+use crate::left_call::{Left, evaluated};
 use crate::shapes::symbol_in;
 use crate::unset::unset;
 use builtin_names::name;
@@ -150,7 +152,8 @@ impl Assignment {
     {
         match evaluated(scene, elements) {
             Err(halt) => Err(halt),
-            Ok(left) => self.reach(scene, defs, used, left),
+            Ok(Left::Whole(left)) => self.reach(scene, defs, used, left),
+            Ok(Left::Large(list)) => self.reach_large(scene, defs, used, list),
         }
     }
 
@@ -172,6 +175,23 @@ impl Assignment {
                 self.assign(scene, defs, used, form, left, right)
             }
             Goal::Unset => done_with(unset(scene, defs, used, &left)),
+        }
+    }
+
+    /// The left side is evaluated, and is a List larger or deeper than any expression, in whose place this one stands.
+    fn reach_large(
+        &mut self,
+        scene: &Scene,
+        defs: &mut Defs,
+        used: &mut bool,
+        list: Expr,
+    ) -> Result<Move, Halt>
+        ensures stepped { (l : Tree) → Replaces (names_in scene.now.names.now) list l → (stay : Prog) → Stepped (setting_of scene.now) (reached (names_in scene.now.names.now) self.old.goal l) stay defs.old used.old result (left_assignment (names_in scene.now.names.now) self.new) defs.new used.new }
+        ensures falls { Falls result 1 (λ answer. asked_in self.new.phase) }
+    {
+        match &self.goal {
+            Goal::Assign(_, _) => self.reach(scene, defs, used, list),
+            Goal::Unset => done_with(unset_large(scene, defs, used, &list)),
         }
     }
 

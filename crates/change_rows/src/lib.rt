@@ -7,6 +7,7 @@ mod attributes;
 mod change;
 mod effects;
 mod elements;
+mod large;
 mod left_call;
 mod renewal;
 mod shapes;

@@ -40,7 +40,7 @@ fn head_symbol(alloc: Global, e: &Expr) -> Result<Syms, AllocError>
 }
 
 /// The symbols that may hold something with a left side, each once.
-fn holders(alloc: Global, names: &Names, left: &Expr) -> Result<Syms, AllocError>
+pub(crate) fn holders(alloc: Global, names: &Names, left: &Expr) -> Result<Syms, AllocError>
     requires { HasBuiltins names.now }
     ensures { IfOk result (λ ss. ss ≡ changes.holders (names_in names.now) left.now) }
 {

@@ -3,8 +3,8 @@ use Rattle.semantics.specs.Program.{Prog}
 use Rattle.semantics.specs.Play.{Evaluator, State, run}
 use Rattle.semantics.specs.Assemble.{check_all}
 use Rattle.frame_steps.specs.Setup.{setting_of}
-use Rattle.change_rows.proofs.left_call.listed.Given as goal
+use Rattle.change_rows.proofs.left_call.first_stop.Given as goal
 
 abbrev pub invariant-loop-e : goal.invariant-loop-e
 invariant-loop-e l =
-    (p : Prog) (ev : Evaluator) (st : State) → run (setting_of l.scene) ev (check_all l.fn.each p) st ≡ run (setting_of l.scene) ev (check_all (drop l.e-index l.fn.each) p) st
+    (p : Prog) (ev : Evaluator) (st : State) → run (setting_of l.scene) ev (check_all l.each p) st ≡ run (setting_of l.scene) ev (check_all (drop l.e-index l.each) p) st
