@@ -153,6 +153,13 @@ module _ {S : Type 0} {step : Step S} {set : Setting} {n : ℕ} where
       (λ rest. reached_on (sees_on m (λ it. try_rules set.names it.definition.ups e Done rest)) (reached_is (ap (λ rs. try_rules set.names rs e Done rest) (sym is))))
       (begins_opens a)
 
+  pub element_none : (x : Tree) (e : Tree) {s : S} {st : State} → symbol_of x ≡ None → Stepped step set n (λ rest. symbol_rules set.names (symbol_of x) e rest) s st (Ok None) st s
+  element_none x e is = stepped_is (λ rest. ap (λ o. symbol_rules set.names o e rest) is) stepped_here
+
+  pub element_some : (x : Tree) (e : Tree) {i : Sym} {r : Result (Option Tree) Ending} {s z : S} {st st' : State} → symbol_of x ≡ Some i → Stepped step set n (λ rest. symbol_rules set.names (Some i) e rest) s st r st' z →
+      Stepped step set n (λ rest. symbol_rules set.names (symbol_of x) e rest) s st r st' z
+  element_some x e is a = stepped_is (λ rest. ap (λ o. symbol_rules set.names o e rest) is) a
+
   -- the next element
   pub ups_next : (items : List Tree) (i : ℕ) (x : Tree) (e : Tree) {s : S} {st : State} → i < length items → x ≡ get_or items i x → (rest : Prog) →
       Reached step set n (up_rules set.names (drop i items) e rest) s st (symbol_rules set.names (symbol_of x) e (up_rules set.names (drop (i + 1) items) e rest)) st s

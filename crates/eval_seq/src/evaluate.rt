@@ -1,5 +1,6 @@
 //! Evaluating: a cycle of functions, of which each says that the evaluation went on from a program to its end.
-ghost use Rattle.std.specs.Prelude.{◌≡◌};
+ghost use Rattle.std.specs.Prelude.{◌≡◌, Some};
+ghost use Rattle.expr_tree.specs.Shapes.{symbol_of};
 ghost use Rattle.expr_tree.specs.Tree.{call};
 ghost use Rattle.semantics.specs.Pass as p;
 ghost use Rattle.semantics.specs.Assemble as a;
@@ -11,6 +12,7 @@ ghost use Rattle.eval_seq.specs.Outward.{Guarded};
 ghost use Rattle.frame_steps.specs.Setup.{setting_of};
 ghost use Rattle.eval_seq.specs.Setup.{state_of};
 ghost use Rattle.eval_seq.specs.Walks.{or_itself, Evaluates, Settles, Runs, PassOf, Stepped};
+ghost use Rattle.eval_seq.specs.declared.machine.Start.{Start};
 ghost use Rattle.eval_seq.specs.Driven.{driven, Follows};
 ghost use Rattle.eval_seq.specs.Sequence.{last_of, one_asked, evaluated, after_values, values_in, values_of, unless_held, Turned, IsWithin, IsSettled};
 
@@ -27,10 +29,11 @@ use crate::symbols::{attrs_under, own};
 use crate::values::{Values, new_or_copies, new_or_copy, new_or_old, with_next};
 use attr_steps::{holds_first, holds_rest, is_asked, spliced, threaded};
 use evaluation_steps::Halt;
-use expr_tree::{Attrs, Expr, Exprs, Node, Stop, symbol_of};
+use expr_tree::{Attrs, Expr, Exprs, Node, Stop, Sym, symbol_of};
 use frame_steps::{Move, Scene};
 use frames_scope::Locals;
 use kernel_defs::Defs;
+use row_frames::Frame;
 
 /// Evaluates an expression, with `left` nested evaluations left. `None` is the expression itself.
 #[cycle(evaluate)]
@@ -421,13 +424,49 @@ fn up_steps<U: Upcall>(
         return Ok(None);
     }
     for item in items.as_slice() {
-        let symbol = symbol_of(item);
-        let rules = up_start(scene, defs, up, going, symbol, whole)?;
-        if let Some(value) = drive(scene, left, defs, up, going, rules)? {
+        if let Some(value) = element_rules(scene, left, defs, up, going, whole, item)? {
             return Ok(Some(value));
         }
     }
     Ok(None)
+}
+
+/// Tries the up rules of the symbol of an element, if it has one.
+#[cycle(evaluate)]
+fn element_rules<U: Upcall>(
+    scene: &Scene,
+    left: u32,
+    defs: &mut Defs,
+    up: &mut U,
+    going: &mut Going,
+    whole: &Expr,
+    item: &Expr,
+) -> Result<Option<Expr>, Ending>
+    requires { U.ready up.old }
+    ensures { Stepped (Guarded U.step U.ready) (setting_of scene.now) left (λ rest. p.symbol_rules (names_in scene.now.names.now) (symbol_of item.now) whole.now rest) up.old (state_of defs.old going.old) result (state_of defs.new going.new) up.new }
+{
+    match symbol_of(item) {
+        Some(symbol) => symbol_rules(scene, left, defs, up, going, whole, symbol),
+        None => Ok(None),
+    }
+}
+
+/// Tries the up rules of a symbol.
+#[cycle(evaluate)]
+fn symbol_rules<U: Upcall>(
+    scene: &Scene,
+    left: u32,
+    defs: &mut Defs,
+    up: &mut U,
+    going: &mut Going,
+    whole: &Expr,
+    symbol: Sym,
+) -> Result<Option<Expr>, Ending>
+    requires { U.ready up.old }
+    ensures { Stepped (Guarded U.step U.ready) (setting_of scene.now) left (λ rest. p.symbol_rules (names_in scene.now.names.now) (Some symbol) whole.now rest) up.old (state_of defs.old going.old) result (state_of defs.new going.new) up.new }
+{
+    let rules = up_start(scene, defs, up, going, symbol, whole)?;
+    drive(scene, left, defs, up, going, rules)
 }
 
 /// Tries the down rules of a head, and its row.
@@ -466,10 +505,26 @@ fn drive<U: Upcall>(
     requires { U.ready up.old }
     ensures { Stepped (Guarded U.step U.ready) (setting_of scene.now) left (driven (names_in scene.now.names.now) start) up.old (state_of defs.old going.old) result (state_of defs.new going.new) up.new }
 {
-    let mut frame = match start {
-        Start::Given(value) => return Ok(value),
-        Start::Machine(frame) => frame,
-    };
+    match start {
+        Start::Given(value) => Ok(value),
+        Start::Machine(machine) => perform(scene, left, defs, up, going, machine),
+    }
+}
+
+/// Performs a machine, to its result or none.
+#[cycle(evaluate)]
+fn perform<U: Upcall>(
+    scene: &Scene,
+    left: u32,
+    defs: &mut Defs,
+    up: &mut U,
+    going: &mut Going,
+    machine: Frame,
+) -> Result<Option<Expr>, Ending>
+    requires { U.ready up.old }
+    ensures { Stepped (Guarded U.step U.ready) (setting_of scene.now) left (driven (names_in scene.now.names.now) (Start.Machine machine)) up.old (state_of defs.old going.old) result (state_of defs.new going.new) up.new }
+{
+    let mut frame = machine;
     let mut answer = None;
     'steps: loop {
         let next = frame.step(scene, defs, &mut going.used, answer)?;

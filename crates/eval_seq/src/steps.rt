@@ -1,5 +1,5 @@
 //! How the steps of a pass after splicing begin.
-ghost use Rattle.std.specs.Prelude.{◌≡◌, ℕ};
+ghost use Rattle.std.specs.Prelude.{◌≡◌, ℕ, Some};
 ghost use Rattle.expr_tree.specs.Tree as tree;
 ghost use Rattle.semantics.specs.Attempt.{try_rules};
 ghost use Rattle.semantics.specs.Pass as p;
@@ -56,14 +56,11 @@ pub(crate) fn up_start<U: Upcall>(
     defs: &Defs,
     _up: &U,
     going: &mut Going,
-    symbol: Option<Sym>,
+    symbol: Sym,
     whole: &Expr,
 ) -> Result<Start, Ending>
-    ensures { (n : ℕ) → Begins (Guarded U.step U.ready) (setting_of scene.now) n (λ rest. p.symbol_rules (names_in scene.now.names.now) symbol whole.now rest) _up.now (state_of defs.now going.old) result (state_of defs.now going.new) _up.now }
+    ensures { (n : ℕ) → Begins (Guarded U.step U.ready) (setting_of scene.now) n (λ rest. p.symbol_rules (names_in scene.now.names.now) (Some symbol) whole.now rest) _up.now (state_of defs.now going.old) result (state_of defs.now going.new) _up.now }
 {
-    let Some(symbol) = symbol else {
-        return Ok(Start::Given(None));
-    };
     see(scene, defs, going, symbol);
     rules_start(scene.alloc, defs.ups_of(symbol), whole)
 }

@@ -11,7 +11,7 @@ use Rattle.eval_seq.specs.Walks.{valued}
 use Rattle.eval_seq.proofs.Walking.{evaluates_out, evaluates_deep, evaluates_err, pass_err, pass_lost, runs_ask, runs_err_or, runs_lost, runs_led, settles_err, settles_pass_out, settles_value}
 use Rattle.eval_seq.proofs.Answered.{pass_answers}
 use Rattle.eval_seq.proofs.Driving.{begins_on, driven_given, driven_goes, driven_ends, driven_out, driven_halts, follows_asked, follows_asked_out, follows_within, follows_within_out, follows_turn, follows_turn_out, follows_done, follows_stays, follows_err, runs_turning, runs_turning_out, runs_put_back}
-use Rattle.eval_seq.proofs.StepLaws.{stepped_err, down_value, down_out, down_on, ups_out, ups_value, ups_on, ups_done, ups_held, ups_free, finish_value, finish_out, finish_stays, later_listed, later_whole, settled_threads, settled_out, settled_listed, settled_on, call_value, call_out, call_on, stepped_last, stepped_here}
+use Rattle.eval_seq.proofs.StepLaws.{stepped_err, down_value, down_out, down_on, element_none, element_some, ups_out, ups_value, ups_on, ups_done, ups_held, ups_free, finish_value, finish_out, finish_stays, later_listed, later_whole, settled_threads, settled_out, settled_listed, settled_on, call_value, call_out, call_on, stepped_last, stepped_here}
 use Rattle.eval_seq.proofs.SymbolLaws.{pass_err_or, pass_lost_or}
 use Rattle.eval_seq.proofs.SequenceLaws.{runs_held, runs_asked, led_asking, led_next, item_out, item_lost, items_done, head_out, items_out, values_done, values_err, splice_out, splice_on, changed_is, turn_itself, turn_same, turn_out, turn_err, turn_large, turn_worn, turn_again_out, turn_again, passed_settles, settles_err_or, evaluates_lost, normal_out, normal_on, normal_settled, pass_normal}
 use Rattle.eval_seq.proofs.Readiness.{ready_evaluates, ready_runs, ready_turned, ready_stepped, ready_begins, ready_follows}
@@ -348,31 +348,22 @@ up_steps-returns-then-attrs g t c = ups_held (attributes_in c.args.attrs.now) c.
 pub up_steps-loop-item-init : goal.up_steps-loop-item-init
 up_steps-loop-item-init g t c = record { led = λ rest. reached_here; free = c.if-attrs.false; ready = c.requires }
 
-pub up_steps-returns-in_err-rules : goal.up_steps-returns-in_err-rules
-up_steps-returns-in_err-rules g t c =
-    stepped_err c.from_residual.ensures.1
-    (ups_free (attributes_in c.args.attrs.now) c.args.items.now c.args.whole.now (has_hold_all_complete c.args.attrs.now ∙ c.loop-item.invariant.free)
-    (ups_out c.args.items.now c.loop-item.item-index c.item-item.result c.args.whole.now (rw c.as_slice-item-items.ensures at c.loop-item-test.true) (rw c.as_slice-item-items.ensures at c.item-item.is) c.loop-item.invariant.led (rw c.symbol_of-symbol.ensures at (c.in_err-rules.ensures c.args.left).by)))
-
 pub up_steps-returns-in_err-value : goal.up_steps-returns-in_err-value
 up_steps-returns-in_err-value g t c =
-    stepped_err c.from_residual-in_err-value.ensures.1
+    stepped_err c.from_residual.ensures.1
     (ups_free (attributes_in c.args.attrs.now) c.args.items.now c.args.whole.now (has_hold_all_complete c.args.attrs.now ∙ c.loop-item.invariant.free)
-    (ups_out c.args.items.now c.loop-item.item-index c.item-item.result c.args.whole.now (rw c.as_slice-item-items.ensures at c.loop-item-test.true) (rw c.as_slice-item-items.ensures at c.item-item.is) c.loop-item.invariant.led
-    (begins_on (rw c.symbol_of-symbol.ensures at (c.in_ok-rules.ensures c.args.left)) c.in_err-value.ensures)))
+    (ups_out c.args.items.now c.loop-item.item-index c.item-item.result c.args.whole.now (rw c.as_slice-item-items.ensures at c.loop-item-test.true) (rw c.as_slice-item-items.ensures at c.item-item.is) c.loop-item.invariant.led c.in_err-value.ensures))
 
 pub up_steps-returns-in-Some : goal.up_steps-returns-in-Some
 up_steps-returns-in-Some g t c =
     ups_free (attributes_in c.args.attrs.now) c.args.items.now c.args.whole.now (has_hold_all_complete c.args.attrs.now ∙ c.loop-item.invariant.free)
-    (ups_value c.args.items.now c.loop-item.item-index c.item-item.result c.args.whole.now (rw c.as_slice-item-items.ensures at c.loop-item-test.true) (rw c.as_slice-item-items.ensures at c.item-item.is) c.loop-item.invariant.led
-    (begins_on (rw c.symbol_of-symbol.ensures at (c.in_ok-rules.ensures c.args.left)) (rw c.in-Some.is at c.in_ok-value.ensures)))
+    (ups_value c.args.items.now c.loop-item.item-index c.item-item.result c.args.whole.now (rw c.as_slice-item-items.ensures at c.loop-item-test.true) (rw c.as_slice-item-items.ensures at c.item-item.is) c.loop-item.invariant.led (rw c.in-Some.is at c.in_ok-value.ensures))
 
 pub up_steps-loop-item-preserved : goal.up_steps-loop-item-preserved
 up_steps-loop-item-preserved g t c = record {
-  led = ups_on c.args.items.now c.loop-item.item-index c.item-item.result c.args.whole.now (rw c.as_slice-item-items.ensures at c.loop-item-test.true) (rw c.as_slice-item-items.ensures at c.item-item.is) c.loop-item.invariant.led
-      (begins_on (rw c.symbol_of-symbol.ensures at (c.in_ok-rules.ensures c.args.left)) (rw c.in_default.is at c.in_ok-value.ensures));
+  led = ups_on c.args.items.now c.loop-item.item-index c.item-item.result c.args.whole.now (rw c.as_slice-item-items.ensures at c.loop-item-test.true) (rw c.as_slice-item-items.ensures at c.item-item.is) c.loop-item.invariant.led (rw c.in_default.is at c.in_ok-value.ensures);
   free = c.loop-item.invariant.free;
-  ready = ready_stepped (rw c.in_default.is at c.in_ok-value.ensures) (ready_begins (c.in_ok-rules.ensures c.args.left) c.loop-item.invariant.ready);
+  ready = ready_stepped (rw c.in_default.is at c.in_ok-value.ensures) c.loop-item.invariant.ready;
 }
 
 pub up_steps-returns : goal.up_steps-returns
@@ -380,8 +371,25 @@ up_steps-returns g t c =
     ups_free (attributes_in c.args.attrs.now) c.args.items.now c.args.whole.now (has_hold_all_complete c.args.attrs.now ∙ c.loop-item.invariant.free)
     (ups_done c.args.items.now c.loop-item.item-index c.args.whole.now (rw c.as_slice-item-items.ensures at c.loop-item-test.false) c.loop-item.invariant.led)
 
-pub up_steps-drive-requires : goal.up_steps-drive-requires
-up_steps-drive-requires g t c = let ready = ready_begins (c.in_ok-rules.ensures c.args.left) c.loop-item.invariant.ready in search (rules, ready)
+pub up_steps-element_rules-requires : goal.up_steps-element_rules-requires
+up_steps-element_rules-requires g t c = let ready = c.loop-item.invariant.ready in search (rules, ready)
+
+-- element_rules
+pub element_rules-returns-in-None : goal.element_rules-returns-in-None
+element_rules-returns-in-None g t c = element_none c.args.item.now c.args.whole.now (sym c.symbol_of.ensures ∙ c.in-None.is)
+
+pub element_rules-returns-in-Some : goal.element_rules-returns-in-Some
+element_rules-returns-in-Some g t c = element_some c.args.item.now c.args.whole.now (sym c.symbol_of.ensures ∙ c.in-Some.is) c.symbol_rules.ensures
+
+-- symbol_rules
+pub symbol_rules-returns-in_err-rules : goal.symbol_rules-returns-in_err-rules
+symbol_rules-returns-in_err-rules g t c = stepped_err c.from_residual.ensures.1 (c.in_err-rules.ensures c.args.left).by
+
+pub symbol_rules-returns : goal.symbol_rules-returns
+symbol_rules-returns g t c = begins_on (c.in_ok-rules.ensures c.args.left) c.drive.ensures
+
+pub symbol_rules-drive-requires : goal.symbol_rules-drive-requires
+symbol_rules-drive-requires g t c = let ready = ready_begins (c.in_ok-rules.ensures c.args.left) c.requires in search (rules, ready)
 
 -- down_steps
 pub down_steps-returns-in_err-rules : goal.down_steps-returns-in_err-rules
@@ -425,28 +433,32 @@ down_steps-drive-requires-2 g t c =
 pub drive-returns-in-Given : goal.drive-returns-in-Given
 drive-returns-in-Given g t c = rw c.in-Given.is (driven_given c.in-Given.value)
 
-pub drive-steps-init : goal.drive-steps-init
-drive-steps-init g t c = record { led = λ stay. rw c.in-Machine.is reached_here; ready = c.requires }
+pub drive-returns-in-Machine : goal.drive-returns-in-Machine
+drive-returns-in-Machine g t c = rw c.in-Machine.is c.perform.ensures
 
-pub drive-returns-in_err-next : goal.drive-returns-in_err-next
-drive-returns-in_err-next g t c = stepped_err c.from_residual.ensures.1 (driven_halts c.steps.invariant.led c.in_err-next.ensures.stepped)
+-- perform
+pub perform-steps-init : goal.perform-steps-init
+perform-steps-init g t c = record { led = λ stay. reached_here; ready = c.requires }
 
-pub drive-returns-in_err-value : goal.drive-returns-in_err-value
-drive-returns-in_err-value g t c = stepped_err c.from_residual-in_err-value.ensures.1 (driven_out c.steps.invariant.led c.in_ok-next.ensures.stepped c.in_err-value.ensures)
+pub perform-returns-in_err-next : goal.perform-returns-in_err-next
+perform-returns-in_err-next g t c = stepped_err c.from_residual.ensures.1 (driven_halts c.steps.invariant.led c.in_err-next.ensures.stepped)
 
-pub drive-returns-in-Ends : goal.drive-returns-in-Ends
-drive-returns-in-Ends g t c = driven_ends c.in-Ends.value c.steps.invariant.led c.in_ok-next.ensures.stepped (rw c.in-Ends.is at c.in_ok-value.ensures)
+pub perform-returns-in_err-value : goal.perform-returns-in_err-value
+perform-returns-in_err-value g t c = stepped_err c.from_residual-in_err-value.ensures.1 (driven_out c.steps.invariant.led c.in_ok-next.ensures.stepped c.in_err-value.ensures)
 
-pub drive-steps-preserved : goal.drive-steps-preserved
-drive-steps-preserved g t c =
+pub perform-returns-in-Ends : goal.perform-returns-in-Ends
+perform-returns-in-Ends g t c = driven_ends c.in-Ends.value c.steps.invariant.led c.in_ok-next.ensures.stepped (rw c.in-Ends.is at c.in_ok-value.ensures)
+
+pub perform-steps-preserved : goal.perform-steps-preserved
+perform-steps-preserved g t c =
     let b = rw c.in-Goes.is at c.in_ok-value.ensures in
     record { led = driven_goes c.steps.invariant.led c.in_ok-next.ensures.stepped b; ready = ready_follows b c.steps.invariant.ready }
 
-pub drive-steps-smaller : goal.drive-steps-smaller
-drive-steps-smaller g t c = let b = rw c.in-Goes.is at c.in_ok-value.ensures in b.fewer _ _ c.in_ok-next.ensures.falls
+pub perform-steps-smaller : goal.perform-steps-smaller
+perform-steps-smaller g t c = let b = rw c.in-Goes.is at c.in_ok-value.ensures in b.fewer _ _ c.in_ok-next.ensures.falls
 
-pub drive-follow-requires : goal.drive-follow-requires
-drive-follow-requires g t c = let ready = c.steps.invariant.ready in search (rules, ready)
+pub perform-follow-requires : goal.perform-follow-requires
+perform-follow-requires g t c = let ready = c.steps.invariant.ready in search (rules, ready)
 
 -- follow
 pub follow-returns-in_err-count-in-Ask : goal.follow-returns-in_err-count-in-Ask

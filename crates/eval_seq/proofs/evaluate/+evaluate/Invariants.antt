@@ -10,70 +10,80 @@ use Rattle.evaluation_steps.specs.Passed.{Passed}
 use Rattle.eval_seq.specs.Outward.{Guarded}
 use Rattle.frame_steps.specs.Setup.{setting_of}
 use Rattle.eval_seq.specs.Setup.{state_of}
+use Rattle.eval_seq.specs.declared.machine.Start.{Start}
 use Rattle.eval_seq.specs.Driven.{driven}
 use Rattle.eval_seq.specs.Sequence.{asking}
 use Rattle.row_frames.specs.Frames.{left, questions}
 use Rattle.eval_seq.proofs.evaluate.+evaluate.Given as goal
 
 abbrev pub decreases-evaluate : goal.decreases-evaluate
-decreases-evaluate g l = 15 * l.left + 0
+decreases-evaluate g l = 18 * l.left + 0
 
 abbrev pub decreases-value_of : goal.decreases-value_of
-decreases-value_of g l = 15 * l.left + 1
+decreases-value_of g l = 18 * l.left + 1
 
 abbrev pub decreases-element : goal.decreases-element
-decreases-element g l = 15 * l.left + 1
+decreases-element g l = 18 * l.left + 1
 
 abbrev pub decreases-elements : goal.decreases-elements
-decreases-elements g l = 15 * l.left + 2
+decreases-elements g l = 18 * l.left + 2
 
 abbrev pub decreases-values : goal.decreases-values
-decreases-values g l = 15 * l.left + 3
+decreases-values g l = 18 * l.left + 3
 
 abbrev pub decreases-value_within : goal.decreases-value_within
-decreases-value_within g l = 15 * l.left + 2
+decreases-value_within g l = 18 * l.left + 2
 
 abbrev pub decreases-follow : goal.decreases-follow
-decreases-follow g l = 15 * l.left + 3
+decreases-follow g l = 18 * l.left + 3
+
+abbrev pub decreases-perform : goal.decreases-perform
+decreases-perform g l = 18 * l.left + 4
 
 abbrev pub decreases-drive : goal.decreases-drive
-decreases-drive g l = 15 * l.left + 4
+decreases-drive g l = 18 * l.left + 5
+
+abbrev pub decreases-symbol_rules : goal.decreases-symbol_rules
+decreases-symbol_rules g l = 18 * l.left + 6
+
+abbrev pub decreases-element_rules : goal.decreases-element_rules
+decreases-element_rules g l = 18 * l.left + 7
 
 abbrev pub decreases-up_steps : goal.decreases-up_steps
-decreases-up_steps g l = 15 * l.left + 5
+decreases-up_steps g l = 18 * l.left + 8
 
 abbrev pub decreases-down_steps : goal.decreases-down_steps
-decreases-down_steps g l = 15 * l.left + 5
+decreases-down_steps g l = 18 * l.left + 6
 
 abbrev pub decreases-call_steps : goal.decreases-call_steps
-decreases-call_steps g l = 15 * l.left + 6
+decreases-call_steps g l = 18 * l.left + 9
 
 abbrev pub decreases-last_steps : goal.decreases-last_steps
-decreases-last_steps g l = 15 * l.left + 7
+decreases-last_steps g l = 18 * l.left + 10
 
 abbrev pub decreases-later : goal.decreases-later
-decreases-later g l = 15 * l.left + 8
+decreases-later g l = 18 * l.left + 11
 
 abbrev pub decreases-settled : goal.decreases-settled
-decreases-settled g l = 15 * l.left + 7
+decreases-settled g l = 18 * l.left + 10
 
 abbrev pub decreases-changed : goal.decreases-changed
-decreases-changed g l = 15 * l.left + 9
+decreases-changed g l = 18 * l.left + 12
 
 abbrev pub decreases-normal : goal.decreases-normal
-decreases-normal g l = 15 * l.left + 10
+decreases-normal g l = 18 * l.left + 13
 
 abbrev pub decreases-pass : goal.decreases-pass
-decreases-pass g l = 15 * l.left + 11
+decreases-pass g l = 18 * l.left + 14
 
 abbrev pub decreases-turn : goal.decreases-turn
-decreases-turn g l = 15 * l.left + 12
+decreases-turn g l = 18 * l.left + 15
 
 abbrev pub decreases-settle_rest : goal.decreases-settle_rest
-decreases-settle_rest g l = 15 * l.left + 13
+decreases-settle_rest g l = 18 * l.left + 16
 
 abbrev pub decreases-settle : goal.decreases-settle
-decreases-settle g l = 15 * l.left + 14
+decreases-settle g l = 18 * l.left + 17
 
 abbrev pub invariant-settle_rest-passes : goal.invariant-settle_rest-passes
 invariant-settle_rest-passes g l = record {
@@ -99,12 +109,12 @@ invariant-up_steps-loop-item g l = record {
   ready : g.U.Upcall.ready l.up;
 }
 
-abbrev pub invariant-drive-steps : goal.invariant-drive-steps
-invariant-drive-steps g l = record {
-  led : (stay : Prog) → Reached (Guarded g.U.Upcall.step g.U.Upcall.ready) (setting_of l.scene) l.left (driven (names_in l.scene.names.now) l.fn.start stay) l.fn.up (state_of l.fn.defs l.fn.going)
+abbrev pub invariant-perform-steps : goal.invariant-perform-steps
+invariant-perform-steps g l = record {
+  led : (stay : Prog) → Reached (Guarded g.U.Upcall.step g.U.Upcall.ready) (setting_of l.scene) l.left (driven (names_in l.scene.names.now) (Start.Machine l.fn.machine) stay) l.fn.up (state_of l.fn.defs l.fn.going)
       (left (names_in l.scene.names.now) l.frame stay l.answer) (state_of l.defs l.going) l.up;
   ready : g.U.Upcall.ready l.up;
 }
 
-abbrev pub decreases-drive-steps : goal.decreases-drive-steps
-decreases-drive-steps g l = questions (names_in l.scene.names.now) l.frame l.answer
+abbrev pub decreases-perform-steps : goal.decreases-perform-steps
+decreases-perform-steps g l = questions (names_in l.scene.names.now) l.frame l.answer

@@ -1,14 +1,8 @@
-use Rattle.std.proofs.Common.{refl}
 use Rattle.builtin_names.specs.Named.{names_in}
 use Rattle.frame_steps.specs.Setup.{setting_of}
-use Rattle.eval_seq.proofs.Driving.{begins_none}
 use Rattle.eval_seq.proofs.StepLaws.{up_rules_begin}
 use Rattle.eval_seq.proofs.steps.up_start.Goals as goal
 
-pub returns-in_default : goal.returns-in_default
-returns-in_default g c = λ n. rw c.in_default.is (begins_none (λ rest. refl))
-
 pub returns : goal.returns
 returns g c =
-    λ n. rw c.in-Some.is
-    (up_rules_begin c.in-Some.symbol c.args.whole.now c.ups_of.result.now c.see.ensures (c.ups_of.ensures (names_in c.args.scene.now.names.now)) (c.rules_start.ensures (setting_of c.args.scene.now)))
+    λ n. up_rules_begin c.args.symbol c.args.whole.now c.ups_of.result.now c.see.ensures (c.ups_of.ensures (names_in c.args.scene.now.names.now)) (c.rules_start.ensures (setting_of c.args.scene.now))
