@@ -6,4 +6,3 @@ pub mod TranscriptLemmas
 pub mod WordLemmas
 pub mod WritingLemmas
 pub mod RunLemmas
-pub mod RowLemmas
