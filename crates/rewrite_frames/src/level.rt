@@ -1,6 +1,5 @@
 //! Expressions of which a part is being replaced.
-ghost use Rattle.std.specs.Prelude.{◌≡◌, IfOk, ◌++◌};
-ghost use Rattle.expr_tree.specs.Tree.{call};
+ghost use Rattle.std.specs.Prelude.{◌≡◌, IfOk};
 ghost use Rattle.rewrite_frames.specs.Levels.{with_part};
 
 use formed_exprs::Formed;

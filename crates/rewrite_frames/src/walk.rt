@@ -1,7 +1,6 @@
 //! Rules tried at the places of an expression, from the outside inwards.
-ghost use Rattle.std.specs.Prelude.{◌≡◌, ◌<◌, IfOk, Option, None};
-ghost use Rattle.expr_tree.specs.Tree.{Tree};
-ghost use Rattle.builtin_names.specs.Named.{HasBuiltins, names_in};
+ghost use Rattle.std.specs.Prelude.{◌≡◌, IfOk};
+ghost use Rattle.builtin_names.specs.Named.{names_in};
 ghost use Rattle.rewrite_frames.specs.Moving.{Passes, Walks};
 ghost use Rattle.rewrite_frames.specs.Walks.{left_walk, place_left, trial_left, walk_over, whole_of};
 ghost use Rattle.rewrite_frames.specs.Rising.{Rises, Enters};
