@@ -35,7 +35,7 @@ deep=$(nested 505 '{' 1 '}')
 
 [ -n "${WOLFPAR:-}" ] || "$top/wolfpar" --kernels 0 </dev/null || exit 1  # builds it
 least 'nothing' '1'
-least 'calls of a symbol without rules' "$(nested 255 'f[' x ']')"
+least 'calls of a name without rules' "$(nested 255 'f[' x ']')"
 least 'a sum in a sum' "$(nested 254 '1 + f[' x ']')"
 least 'parentheses, which only the reader nests' "$(nested 1000 '(' 1 ')')"
 least 'a List of depth 505, printed' "Hold[$deep]"
@@ -71,8 +71,8 @@ least 'the left side of Set' "s[x_] := (a[s[x]] = 1)${blank}s[0]"
 least 'the left side of Unset' "s[x_] := (a[s[x]] =.)${blank}s[0]"
 least 'the right side of TagSet' "s[x_] := (t /: t[1] = s[x])${blank}s[0]"
 least 'AppendTo' "l = {};${blank}s[x_] := AppendTo[l, s[x]]${blank}s[0]"
-least 'PreIncrement of what evaluates itself' "s[x_] := (k = 1; k += s[x])${blank}s[0]"
+least 'AddTo' "s[x_] := (k = 1; k += s[x])${blank}s[0]"
 for form in 'FreeQ[deep, q]' 'deep === other' 'Sort[{deep, other}]' 'deep /. q -> 1' 'MatchQ[deep, other]' "With[{q = 1}, Hold[$deep]]"; do
-  script="deep = Hold[$deep];${blank}other = Hold[$deep];${blank}v[0] := $form; v[n_] := {v[n - 1]}[[1]]${blank}v[126]"
-  least "${form:0:20}, 254 evaluations deep" "$script"
+  script="deep = Hold[$deep];${blank}other = Hold[$deep];${blank}v[0] := ($form; True); v[n_] := True /; v[n - 1]${blank}v[250]"
+  least "${form:0:20} under 250 guards" "$script"
 done
