@@ -36,7 +36,7 @@ pub(crate) struct Ended {
 }
 
 /// Runs a script under these words.
-pub(crate) fn ended(
+pub(crate) fn run_on(
     alloc: Global,
     words: &str,
     mut source: MemSource,
@@ -55,7 +55,7 @@ pub(crate) fn ended(
 pub(crate) fn written(alloc: Global, words: &str, script: &str) -> Result<String, Fail> {
     let source = source_of(alloc, script.as_bytes(), Calls::new(alloc))?;
     let sink = MemSink::new(alloc, ROOM, Calls::new(alloc))?;
-    let run = ended(alloc, words, source, sink)?;
+    let run = run_on(alloc, words, source, sink)?;
     let mut text = run.text;
     if run.status != Status::Done {
         text.push_str("and then it ended")?;

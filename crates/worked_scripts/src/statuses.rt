@@ -1,5 +1,5 @@
 //! How a run ends.
-use crate::run::{Ended, ROOM, ended, source_of};
+use crate::run::{Ended, ROOM, run_on, source_of};
 use port_io::{Calls, MemSink};
 use script_run::Status;
 use std::alloc::Global;
@@ -30,7 +30,7 @@ static REFUSED: &[&str] = &[
 /// A run on these bytes, with a source and a sink that do not fail.
 fn on_bytes(alloc: Global, words: &str, bytes: &[u8]) -> Result<Ended, Fail> {
     let source = source_of(alloc, bytes, Calls::new(alloc))?;
-    ended(
+    run_on(
         alloc,
         words,
         source,
@@ -82,7 +82,7 @@ fn other_words_are_refused(rt: HostRuntime) -> Result<(), Fail> {
 fn a_first_read_that_fails_ends_a_run(rt: HostRuntime) -> Result<(), Fail> {
     let source = source_of(rt.alloc(), TWO_LINES, call(rt.alloc(), 1)?)?;
     let sink = MemSink::new(rt.alloc(), ROOM, Calls::new(rt.alloc()))?;
-    let run = ended(rt.alloc(), "--kernels 0", source, sink)?;
+    let run = run_on(rt.alloc(), "--kernels 0", source, sink)?;
     assert!(rt; is_silent(&run, Status::ReadFault));
     Ok(())
 }
@@ -91,7 +91,7 @@ fn a_first_read_that_fails_ends_a_run(rt: HostRuntime) -> Result<(), Fail> {
 fn a_second_write_that_fails_ends_a_run(rt: HostRuntime) -> Result<(), Fail> {
     let source = source_of(rt.alloc(), TWO_LINES, Calls::new(rt.alloc()))?;
     let sink = MemSink::new(rt.alloc(), ROOM, call(rt.alloc(), 2)?)?;
-    let run = ended(rt.alloc(), "--kernels 0", source, sink)?;
+    let run = run_on(rt.alloc(), "--kernels 0", source, sink)?;
     assert_eq!(rt; run.status, Status::WriteFault);
     assert_eq!(rt; run.text.as_str(), "Out[1]= 3\n");
     Ok(())
