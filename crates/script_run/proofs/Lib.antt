@@ -6,3 +6,4 @@ pub mod TranscriptLemmas
 pub mod WordLemmas
 pub mod WritingLemmas
 pub mod RunLemmas
+pub mod RowLemmas

@@ -15,4 +15,5 @@ mod writing;
 
 pub use report::{Report, Status};
 pub use run::run_alone;
+pub use unbuilt::other_rows_are_built;
 pub use words::steps_of;

@@ -1,7 +1,9 @@
 //! Which expressions have a name whose row is not built.
-ghost use Rattle.std.specs.Prelude.{◌≡◌};
+ghost use Rattle.std.specs.Prelude.{◌≡◌, true, false};
 ghost use Rattle.expr_tree.specs.Tree.{trees};
+ghost use Rattle.semantics.specs.declared.builtin.Builtin.{Builtin};
 ghost use Rattle.builtin_names.specs.Named.{HasBuiltins, names_in};
+ghost use Rattle.eval_seq.specs.Built.{is_built};
 ghost use Rattle.sequential_transcript.specs.Unbuilt.{is_unbuilt, names_unbuilt, has_unbuilt, have_unbuilt};
 
 use builtin_names::role_of;
@@ -76,3 +78,8 @@ fn have_unbuilt(names: &Names, items: &[Expr]) -> bool
     }
     false
 }
+
+/// The evaluator has every row but those whose names keep a cell from being evaluated.
+pub fn other_rows_are_built()
+    ensures law { (row : Builtin) → is_unbuilt row ≡ false → is_built row ≡ true }
+{}
