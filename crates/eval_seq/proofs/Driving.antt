@@ -13,9 +13,9 @@ use Rattle.evaluation_steps.specs.Words.{Reached, Counted}
 use Rattle.evaluation_steps.proofs.Laws.{reached_here, reached_on, reached_turn, reached_part, played_turn_out, played_done, played_memory, went_out}
 use Rattle.evaluation_steps.proofs.Moving.{reached_counted, played_counted_out}
 use Rattle.frames_scope.specs.Reading.{locals_in}
-use Rattle.frame_steps.specs.Steps as f
-use Rattle.frame_steps.specs.Steps.{headed, state_at, EndsBy, Falls}
-use Rattle.frame_steps.specs.declared.moves.Move.{Move}
+use Rattle.machine_steps.specs.Steps as f
+use Rattle.machine_steps.specs.Steps.{headed, state_at, EndsBy, Falls}
+use Rattle.machine_steps.specs.declared.moves.Move.{Move}
 use Rattle.frames_scope.specs.declared.locals.Local as l
 use Rattle.eval_seq.specs.declared.ending.Ending.{Ending}
 use Rattle.eval_seq.specs.declared.ending.Missing.{Missing}

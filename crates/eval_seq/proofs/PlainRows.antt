@@ -5,7 +5,7 @@ use Rattle.semantics.specs.declared.builtin.Builtin.{Builtin}
 use Rattle.semantics.specs.Names.{Names}
 use Rattle.semantics.specs.Program.{Prog}
 use Rattle.semantics.specs.Table.{row, worked, as_program}
-use Rattle.element_rows.specs.Rows.{is_kept_here}
+use Rattle.rows_elements.specs.Rows.{is_kept_here}
 use Rattle.eval_seq.specs.Built.{is_plain}
 
 pub element_works : (names : Names) (r : Builtin) (stay : Prog) (items : List Tree) → is_kept_here r ≡ true → row names r stay items ≡ as_program stay (worked names r items)

@@ -7,7 +7,7 @@ use Rattle.std.specs.Prelude.{pos}
 use Rattle.semantics.specs.Play.{Setting, State, Play}
 use Rattle.evaluation_steps.specs.Leads.{Step, Leads, here, called}
 use Rattle.evaluation_steps.proofs.Laws.{went_somewhere}
-use Rattle.frame_steps.specs.declared.moves.Move.{Move}
+use Rattle.machine_steps.specs.declared.moves.Move.{Move}
 use Rattle.eval_seq.specs.declared.ending.Ending.{Ending}
 use Rattle.eval_seq.specs.declared.machine.Start.{Start}
 use Rattle.eval_seq.specs.declared.machine.Followed.{Followed}

@@ -17,10 +17,10 @@ use Rattle.builtin_names.specs.declared.fault.Fault.{Fault}
 use Rattle.builtin_names.specs.declared.fault.Fault.TheVariants as fa
 use Rattle.evaluation_steps.specs.declared.Halt.{Halt}
 use Rattle.evaluation_steps.specs.Stopping.{HaltsFor}
-use Rattle.frame_steps.specs.Steps.{Starts}
-use Rattle.element_rows.specs.Rows.{is_kept_here}
-use Rattle.row_frames.specs.Frames.{has_frame, left}
-use Rattle.row_frames.specs.declared.frame.Frame.{Frame}
+use Rattle.machine_steps.specs.Steps.{Starts}
+use Rattle.rows_elements.specs.Rows.{is_kept_here}
+use Rattle.machine_rows.specs.Frames.{has_frame, left}
+use Rattle.machine_rows.specs.declared.frame.Frame.{Frame}
 use Rattle.eval_seq.specs.declared.ending.Ending.{Ending}
 use Rattle.eval_seq.specs.declared.ending.Missing.{Missing}
 use Rattle.eval_seq.specs.declared.machine.Start.{Start}

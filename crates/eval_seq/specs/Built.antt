@@ -3,8 +3,8 @@
 --     is_built              these, those that are functions of their elements, and those that have a machine
 use Rattle.std.specs.Prelude.{Bool, true, false, ◌||◌}
 use Rattle.semantics.specs.declared.builtin.Builtin.{Builtin}
-use Rattle.element_rows.specs.Rows.{is_kept_here}
-use Rattle.row_frames.specs.Frames.{has_frame}
+use Rattle.rows_elements.specs.Rows.{is_kept_here}
+use Rattle.machine_rows.specs.Frames.{has_frame}
 
 abbrev pub is_plain_form : Builtin → Bool
 is_plain_form Builtin.Hold = true

@@ -13,9 +13,9 @@ use Rattle.semantics.specs.Play.{Setting, State, too_large}
 use Rattle.evaluation_steps.specs.declared.Halt.{Halt}
 use Rattle.evaluation_steps.specs.Leads.{Step}
 use Rattle.evaluation_steps.specs.Words.{Reached}
-use Rattle.frame_steps.specs.Steps.{headed, Falls}
-use Rattle.frame_steps.specs.declared.moves.Move.{Move}
-use Rattle.row_frames.specs.Frames.{left}
+use Rattle.machine_steps.specs.Steps.{headed, Falls}
+use Rattle.machine_steps.specs.declared.moves.Move.{Move}
+use Rattle.machine_rows.specs.Frames.{left}
 use Rattle.eval_seq.specs.declared.ending.Ending.{Ending}
 use Rattle.eval_seq.specs.declared.ending.Missing.{Missing}
 use Rattle.eval_seq.specs.declared.machine.Start.{Start}

@@ -11,7 +11,7 @@ use Rattle.semantics.specs.Eval.{Event, Evaluation, over}
 use Rattle.builtin_names.specs.Named.{names_in}
 use Rattle.evaluation_steps.specs.Explain.{Told}
 use Rattle.evaluation_steps.specs.declared.Halt.{Halt}
-use Rattle.frame_steps.specs.Setup.{mode_of, shown_by}
+use Rattle.machine_steps.specs.Setup.{mode_of, shown_by}
 use Rattle.eval_seq.specs.declared.context.Context.{Context}
 use Rattle.eval_seq.specs.declared.ending.Ending.{Ending}
 use Rattle.eval_seq.specs.declared.ending.Missing.{Missing}

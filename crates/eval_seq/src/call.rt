@@ -13,8 +13,8 @@ use crate::evaluate::value_of;
 use crate::outward::Upcall;
 use evaluation_steps::Halt;
 use expr_tree::{Expr, Limits, Stop};
-use frame_steps::Scene;
 use kernel_defs::Defs;
+use machine_steps::Scene;
 use std::alloc::Global;
 
 /// How an evaluation ended.

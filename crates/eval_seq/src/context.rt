@@ -1,5 +1,5 @@
 use expr_tree::Syms;
-use frame_steps::Mode;
+use machine_steps::Mode;
 use name_table::Names;
 
 /// Where an expression is evaluated.

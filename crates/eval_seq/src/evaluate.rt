@@ -9,7 +9,7 @@ ghost use Rattle.builtin_names.specs.Attributes.{attributes_in};
 ghost use Rattle.builtin_names.specs.Named.{names_in};
 ghost use Rattle.frames_scope.specs.Reading.{locals_in};
 ghost use Rattle.eval_seq.specs.Outward.{Guarded};
-ghost use Rattle.frame_steps.specs.Setup.{setting_of};
+ghost use Rattle.machine_steps.specs.Setup.{setting_of};
 ghost use Rattle.eval_seq.specs.Setup.{state_of};
 ghost use Rattle.eval_seq.specs.Walks.{or_itself, Evaluates, Settles, Runs, PassOf, Stepped};
 ghost use Rattle.eval_seq.specs.declared.machine.Start.{Start};
@@ -30,10 +30,10 @@ use crate::values::{Values, new_or_copies, new_or_copy, new_or_old, with_next};
 use attr_steps::{holds_first, holds_rest, is_asked, spliced, threaded};
 use evaluation_steps::Halt;
 use expr_tree::{Attrs, Expr, Exprs, Node, Stop, Sym, symbol_of};
-use frame_steps::{Move, Scene};
 use frames_scope::Locals;
 use kernel_defs::Defs;
-use row_frames::Frame;
+use machine_rows::Frame;
+use machine_steps::{Move, Scene};
 
 /// Evaluates an expression, with `left` nested evaluations left. `None` is the expression itself.
 #[cycle(evaluate)]

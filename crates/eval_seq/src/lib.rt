@@ -19,6 +19,6 @@ mod values;
 pub use call::{Ended, Outcome, eval};
 pub use context::Context;
 pub use ending::Missing;
-pub use frame_steps::Mode;
 pub use kernel_defs::Defs;
+pub use machine_steps::Mode;
 pub use outward::{Answer, Upcall, Want};

@@ -1,6 +1,6 @@
 //! Machines that the evaluator performs.
 use expr_tree::Expr;
-use row_frames::Frame;
+use machine_rows::Frame;
 
 /// How a step begins.
 #[derive(Drop)]

@@ -8,9 +8,9 @@ ghost use Rattle.kernel_defs.specs.Locals.{saved_along};
 ghost use Rattle.kernel_defs.specs.Saved.{saved_in};
 
 use expr_tree::Expr;
-use frame_steps::Scene;
 use frames_scope::{Local, Locals};
 use kernel_defs::{Defs, Saved};
+use machine_steps::Scene;
 use std::alloc::{AllocError, Global};
 
 fn value_of_local(alloc: Global, local: &Local) -> Result<Option<Expr>, AllocError>

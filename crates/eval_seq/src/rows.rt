@@ -8,19 +8,19 @@ ghost use Rattle.builtin_names.specs.Named.{names_in};
 ghost use Rattle.builtin_names.specs.Results.{IsFaultOf, Works};
 ghost use Rattle.evaluation_steps.specs.Stopping.{AreBounded, HaltsFor};
 ghost use Rattle.evaluation_steps.specs.declared.Halt.{Halt};
-ghost use Rattle.frame_steps.specs.Setup.{setting_of};
+ghost use Rattle.machine_steps.specs.Setup.{setting_of};
 ghost use Rattle.eval_seq.specs.Built.{is_plain, is_plain_form, is_plain_name};
 ghost use Rattle.eval_seq.specs.Driven.{Opens};
 
 use crate::ending::{Ending, Missing};
 use crate::machine::Start;
 use builtin_names::Fault;
-use element_rows::rewrite;
 use evaluation_steps::Halt;
 use expr_tree::{Expr, Exprs, Limits, Stop};
-use frame_steps::Scene;
 use function_calls::apply;
-use row_frames::Frame;
+use machine_rows::Frame;
+use machine_steps::Scene;
+use rows_elements::rewrite;
 use semantics::Builtin;
 
 /// Why an evaluation ends where a row makes no result.

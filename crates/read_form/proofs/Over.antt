@@ -6,10 +6,10 @@ use Rattle.syntax.specs.Tokens as syn
 use Rattle.lex_form.specs.declared.token.Token.{Token}
 use Rattle.lex_form.specs.Lexes.{token_of}
 use Rattle.lex_form.specs.Shapes.{IsToken, AreTokens}
-use Rattle.phrase_machine.specs.States.{State}
-use Rattle.phrase_machine.specs.Machine.{state_in, steps_to}
-use Rattle.phrase_machine.specs.declared.machine.Machine.{Machine}
-use Rattle.phrase_machine.specs.declared.machine.Step.{Step}
+use Rattle.phrase_form.specs.States.{State}
+use Rattle.phrase_form.specs.Machine.{state_in, steps_to}
+use Rattle.phrase_form.specs.declared.machine.Machine.{Machine}
+use Rattle.phrase_form.specs.declared.machine.Step.{Step}
 use Rattle.read_form.specs.Kept.{AreKeptNames}
 use Rattle.read_form.proofs.BlankParts.{kept_front, kept_back}
 

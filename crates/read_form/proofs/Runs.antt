@@ -15,11 +15,11 @@ use Rattle.syntax.specs.Phrases.{Constructs, written, same_row}
 use Rattle.syntax.specs.Grammar.{WholeOf, nesting_limit}
 use Rattle.syntax.specs.Reads.{AreRead, LexemesRead, Reads, BeginsCell, IsFirstBad, IsOffset, place_of}
 use Rattle.syntax.proofs.Reader.{State, Filler, fill, fills, run, step, finished, start_state, SequenceFits, accepted, viable, not_viable, not_read, run_last}
-use Rattle.reading_laws.specs.Kept.{Kept, KeptList, fits, keep, cut, kept}
-use Rattle.reading_laws.proofs.Cuts.{cut_some}
-use Rattle.reading_laws.proofs.Sizes.{cell_size}
-use Rattle.reading_laws.proofs.Carries.{carry_whole, lift_whole}
-use Rattle.reading_laws.proofs.Limits.{cuts, cut_list, within_of}
+use Rattle.laws_reading.specs.Kept.{Kept, KeptList, fits, keep, cut, kept}
+use Rattle.laws_reading.proofs.Cuts.{cut_some}
+use Rattle.laws_reading.proofs.Sizes.{cell_size}
+use Rattle.laws_reading.proofs.Carries.{carry_whole, lift_whole}
+use Rattle.laws_reading.proofs.Limits.{cuts, cut_list, within_of}
 use Rattle.read_form.specs.Pieces.{lexeme_at}
 use Rattle.read_form.specs.Gone.{Gone, HasGone}
 

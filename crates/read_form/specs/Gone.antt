@@ -6,8 +6,8 @@ use Rattle.semantics.specs.Names.{Names}
 use Rattle.syntax.specs.Tokens.{lex}
 use Rattle.syntax.specs.Leaves.{Lexeme, lexemes, lexemes_after}
 use Rattle.syntax.specs.Terminals.{terminals}
-use Rattle.phrase_machine.specs.States.{State}
-use Rattle.phrase_machine.specs.Machine.{start_at, run_at}
+use Rattle.phrase_form.specs.States.{State}
+use Rattle.phrase_form.specs.Machine.{start_at, run_at}
 
 module _ (names : Names) (find : List ℕ → ℕ) where
   pub record Gone (cell : List ℕ) (at i : ℕ) (s : State names) : Type 0 where

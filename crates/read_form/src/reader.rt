@@ -8,7 +8,7 @@ ghost use Rattle.builtin_names.specs.Named.{HasBuiltins, names_in};
 ghost use Rattle.lex_form.specs.Lexes as form;
 ghost use Rattle.lex_form.specs.Scans.{kind_of};
 ghost use Rattle.lex_form.specs.Shapes.{IsToken};
-ghost use Rattle.phrase_machine.specs.Machine.{state_in, step_at, steps_to};
+ghost use Rattle.phrase_form.specs.Machine.{state_in, step_at, steps_to};
 ghost use Rattle.read_form.specs.Answers.{IsReading, IsNo};
 ghost use Rattle.read_form.specs.Gone.{HasGone};
 ghost use Rattle.read_form.specs.Kept.{AreKeptNames};
@@ -20,7 +20,7 @@ use builtin_names::name;
 use expr_tree::Expr;
 use lex_form::{LexFault, Lexed, Token, Tokens, lex};
 use name_table::Names;
-use phrase_machine::{Machine, Step};
+use phrase_form::{Machine, Step};
 use semantics::Builtin;
 use std::alloc::{AllocError, Global};
 

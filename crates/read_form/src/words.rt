@@ -8,7 +8,7 @@ ghost use Rattle.builtin_names.specs.Named.{HasBuiltins, names_in};
 ghost use Rattle.lex_form.specs.Lexes.{token_of};
 ghost use Rattle.lex_form.specs.Scans.{kind_of};
 ghost use Rattle.lex_form.specs.Shapes.{IsToken, IsQuoted};
-ghost use Rattle.phrase_machine.specs.Words.{terminal_in, word_in};
+ghost use Rattle.phrase_form.specs.Words.{terminal_in, word_in};
 ghost use Rattle.read_form.specs.Kept.{AreKeptNames};
 ghost use Rattle.read_form.specs.Pieces.{lexeme_at};
 
@@ -18,7 +18,7 @@ use crate::signs::sign_of;
 use expr_tree::Expr;
 use lex_form::{Kind, Token};
 use name_table::Names;
-use phrase_machine::{Phrase, PhraseKind, Terminal, Word};
+use phrase_form::{Phrase, PhraseKind, Terminal, Word};
 use std::alloc::{AllocError, Global};
 
 /// The text of a string.

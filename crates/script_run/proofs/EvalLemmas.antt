@@ -13,11 +13,11 @@ use Rattle.semantics.specs.Play.{Setting, State, End, Value, Stopped}
 use Rattle.semantics.specs.Eval.{Event, Ended, eval}
 use Rattle.builtin_names.specs.Named.{HasBuiltins, names_in}
 use Rattle.evaluation_steps.specs.Explain.{EndsAs}
-use Rattle.frame_steps.specs.Setup.{shown_by}
+use Rattle.machine_steps.specs.Setup.{shown_by}
 use Rattle.eval_seq.specs.Told.{Says}
 use Rattle.eval_seq.specs.declared.call.Outcome.{Outcome}
-use Rattle.kept_laws.specs.Kept.{AreKeptIn, IsKeptOutcome, StaysKept}
-use Rattle.kept_laws.proofs.Stay.{bases_stay}
+use Rattle.laws_bases.specs.Kept.{AreKeptIn, IsKeptOutcome, StaysKept}
+use Rattle.laws_bases.proofs.Stay.{bases_stay}
 use Rattle.sequential_transcript.specs.Transcript.{shown_in, limits_of, alone}
 use Rattle.script_run.proofs.LineLemmas.{rows_kept}
 

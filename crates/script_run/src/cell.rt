@@ -4,7 +4,7 @@ ghost use Rattle.script_text.specs.Spelling.{by_texts, place_in};
 ghost use Rattle.syntax.specs.Tokens as syn;
 ghost use Rattle.read_form.specs.Kept.{AreKeptNames};
 ghost use Rattle.builtin_names.specs.Named.{HasBuiltins, names_in};
-ghost use Rattle.kept_laws.specs.Kept.{AreKeptIn};
+ghost use Rattle.laws_bases.specs.Kept.{AreKeptIn};
 ghost use Rattle.sequential_transcript.specs.Transcript.{PrintsCell};
 
 use crate::lines::{out_line, syntax_line, unbuilt_line};

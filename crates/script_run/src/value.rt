@@ -7,7 +7,7 @@ ghost use Rattle.semantics.specs.Definitions.{empty};
 ghost use Rattle.semantics.specs.Eval as sem;
 ghost use Rattle.syntax.specs.Leaves.{lexemes};
 ghost use Rattle.builtin_names.specs.Named.{HasBuiltins, names_in};
-ghost use Rattle.kept_laws.specs.Kept.{AreKeptIn, IsKeptValue};
+ghost use Rattle.laws_bases.specs.Kept.{AreKeptIn, IsKeptValue};
 ghost use Rattle.sequential_transcript.specs.Transcript.{limits_of, alone, ran, value_in};
 ghost use Rattle.script_run.specs.Cells.{has_some};
 

@@ -8,7 +8,7 @@ use Rattle.semantics.specs.Program.{Call, Request}
 use Rattle.semantics.specs.Play.{Reply}
 use Rattle.semantics.specs.Eval.{Event, Evaluation, Outcome, eval}
 use Rattle.semantics.specs.Table.{row, worked}
-use Rattle.shift_laws.specs.Shift.{shift, shift_definitions, shift_evaluation, below, definitions_below, with_number}
+use Rattle.laws_shift.specs.Shift.{shift, shift_definitions, shift_evaluation, below, definitions_below, with_number}
 use Rattle.worked_rows.specs.Sample.{in_cell, usual, equals, h', x', y', int, list, made, of, plus, stopped, value}
 
 abbrev evaluated : Definitions → Tree → Evaluation

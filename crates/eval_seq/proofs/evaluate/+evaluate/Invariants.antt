@@ -8,12 +8,12 @@ use Rattle.builtin_names.specs.Named.{names_in}
 use Rattle.evaluation_steps.specs.Words.{Led, Reached}
 use Rattle.evaluation_steps.specs.Passed.{Passed}
 use Rattle.eval_seq.specs.Outward.{Guarded}
-use Rattle.frame_steps.specs.Setup.{setting_of}
+use Rattle.machine_steps.specs.Setup.{setting_of}
 use Rattle.eval_seq.specs.Setup.{state_of}
 use Rattle.eval_seq.specs.declared.machine.Start.{Start}
 use Rattle.eval_seq.specs.Driven.{driven}
 use Rattle.eval_seq.specs.Sequence.{asking}
-use Rattle.row_frames.specs.Frames.{left, questions}
+use Rattle.machine_rows.specs.Frames.{left, questions}
 use Rattle.eval_seq.proofs.evaluate.+evaluate.Given as goal
 
 abbrev pub decreases-evaluate : goal.decreases-evaluate

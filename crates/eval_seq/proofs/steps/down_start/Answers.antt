@@ -1,5 +1,5 @@
 use Rattle.builtin_names.specs.Named.{names_in}
-use Rattle.frame_steps.specs.Setup.{setting_of}
+use Rattle.machine_steps.specs.Setup.{setting_of}
 use Rattle.eval_seq.proofs.Driving.{begins_err, begins_lost, begins_out, begins_value}
 use Rattle.eval_seq.proofs.StepLaws.{head_rules_begin, head_sent}
 use Rattle.eval_seq.proofs.steps.down_start.Goals as goal

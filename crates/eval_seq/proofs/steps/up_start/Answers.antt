@@ -1,5 +1,5 @@
 use Rattle.builtin_names.specs.Named.{names_in}
-use Rattle.frame_steps.specs.Setup.{setting_of}
+use Rattle.machine_steps.specs.Setup.{setting_of}
 use Rattle.eval_seq.proofs.StepLaws.{up_rules_begin}
 use Rattle.eval_seq.proofs.steps.up_start.Goals as goal
 

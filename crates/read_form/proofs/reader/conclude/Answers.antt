@@ -2,8 +2,8 @@ use Rattle.std.proofs.Common.{sym, ap, ◌∙◌}
 use Rattle.std.specs.Option.{option_map}
 use Rattle.script_text.specs.Spelling.{place_in}
 use Rattle.builtin_names.specs.Named.{names_in}
-use Rattle.phrase_machine.specs.Held.{kept_in}
-use Rattle.phrase_machine.specs.Machine.{state_in}
+use Rattle.phrase_form.specs.Held.{kept_in}
+use Rattle.phrase_form.specs.Machine.{state_in}
 use Rattle.read_form.proofs.KeptReadings.{reading_kept}
 use Rattle.read_form.proofs.Runs.{ended, unended, is_reading, is_shallow, is_deep}
 use Rattle.read_form.proofs.reader.conclude.Goals as goal

@@ -2,7 +2,7 @@ use Rattle.std.proofs.Common.{sym, subst, List, get_or}
 use Rattle.lex_form.specs.declared.token.Token.{Token}
 use Rattle.lex_form.specs.declared.token.Kind.TheVariants as ki
 use Rattle.lex_form.specs.Lexes.{token_of}
-use Rattle.phrase_machine.specs.Machine.{state_in, step_at}
+use Rattle.phrase_form.specs.Machine.{state_in, step_at}
 use Rattle.script_text.specs.Spelling.{place_in}
 use Rattle.syntax.specs.Tokens as syn
 use Rattle.syntax.specs.Terminals.{terminal}

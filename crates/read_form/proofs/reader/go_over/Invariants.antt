@@ -4,7 +4,7 @@ use Rattle.syntax.specs.Tokens as syn
 use Rattle.builtin_names.specs.Named.{names_in}
 use Rattle.lex_form.specs.Lexes.{token_of}
 use Rattle.lex_form.specs.Shapes.{AreTokens}
-use Rattle.phrase_machine.specs.Machine.{state_in}
+use Rattle.phrase_form.specs.Machine.{state_in}
 use Rattle.read_form.specs.Gone.{Gone}
 use Rattle.read_form.specs.Kept.{AreKeptNames}
 use Rattle.read_form.proofs.reader.go_over.Given as goal

@@ -5,7 +5,7 @@ use Rattle.syntax.specs.Tokens as syn
 use Rattle.syntax.specs.Reads.{IsOffset}
 use Rattle.builtin_names.specs.Named.{names_in}
 use Rattle.lex_form.specs.Lexes.{fault_in, fault_of}
-use Rattle.phrase_machine.specs.Machine.{state_in}
+use Rattle.phrase_form.specs.Machine.{state_in}
 use Rattle.read_form.proofs.KeptReadings.{null_kept}
 use Rattle.read_form.proofs.Runs.{at_fault}
 use Rattle.read_form.proofs.reader.read_lexed.Goals as goal

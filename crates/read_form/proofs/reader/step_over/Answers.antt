@@ -1,8 +1,8 @@
 use Rattle.std.proofs.Common.{◌≡◌, subst, IfOk}
 use Rattle.syntax.specs.Terminals.{Terminal}
 use Rattle.builtin_names.specs.Named.{names_in}
-use Rattle.phrase_machine.specs.Machine.{state_in, step_at, steps_to}
-use Rattle.phrase_machine.specs.declared.machine.Step.{Step}
+use Rattle.phrase_form.specs.Machine.{state_in, step_at, steps_to}
+use Rattle.phrase_form.specs.declared.machine.Step.{Step}
 use Rattle.read_form.proofs.reader.step_over.Goals as goal
 
 pub returns : goal.returns

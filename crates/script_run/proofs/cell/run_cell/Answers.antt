@@ -3,7 +3,7 @@ use Rattle.script_text.specs.Laws.{IsKept}
 use Rattle.script_text.specs.Spelling.{by_texts, place_in}
 use Rattle.semantics.specs.declared.builtin.Builtin.{Builtin}
 use Rattle.builtin_names.specs.Named.{names_in}
-use Rattle.kept_laws.specs.Kept.{IsKeptValue}
+use Rattle.laws_bases.specs.Kept.{IsKeptValue}
 use Rattle.script_run.proofs.LineLemmas.{name_kept}
 use Rattle.script_run.proofs.TranscriptLemmas.{read_line, deep_line, unread_line, no_is}
 use Rattle.script_run.proofs.cell.run_cell.Goals as goal

@@ -6,7 +6,7 @@ use Rattle.lex_form.specs.Spans.{span_text}
 use Rattle.port_io.specs.Counts.{Rose}
 use Rattle.script_run.specs.Cells.{AreCellSpans}
 use Rattle.semantics.specs.Definitions.{empty}
-use Rattle.kept_laws.specs.Kept.{AreKeptIn}
+use Rattle.laws_bases.specs.Kept.{AreKeptIn}
 use Rattle.script_run.proofs.EvalLemmas.{first_kept}
 use Rattle.script_run.proofs.NameLemmas.{AreKeptCells, script_kept}
 use Rattle.script_run.proofs.TextLemmas.{first_span, span_whole}

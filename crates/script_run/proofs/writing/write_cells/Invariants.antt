@@ -3,7 +3,7 @@ use Rattle.std.specs.Io.KnownBytes.{Appends}
 use Rattle.script_text.specs.Bytes.{all_joined}
 use Rattle.script_text.specs.Cells.{cells}
 use Rattle.lex_form.specs.Spans.{span_text}
-use Rattle.kept_laws.specs.Kept.{AreKeptIn}
+use Rattle.laws_bases.specs.Kept.{AreKeptIn}
 use Rattle.script_run.specs.Cells.{AreCellSpans}
 use Rattle.script_run.proofs.NameLemmas.{AreKeptCells}
 use Rattle.script_run.proofs.TranscriptLemmas.{AreSoFar}

@@ -1,7 +1,0 @@
-use Rattle.builtin_names.specs.Named.{names_in}
-use Rattle.change_rows.proofs.Forms.{form_rows}
-use Rattle.change_rows.proofs.Going.{starts_as}
-use Rattle.change_rows.proofs.assignment.of_form.Goals as goal
-
-pub returns : goal.returns
-returns c = starts_as c.of_sides.result (λ stay. form_rows (names_in c.args.names.now) c.args.form stay c.args.items.now) c.of_sides.ensures

@@ -1,8 +1,0 @@
-use Rattle.std.proofs.Common.{◌≡◌, drop}
-use Rattle.semantics.specs.Changes.{attribute_names}
-use Rattle.builtin_names.specs.Named.{names_in}
-use Rattle.change_rows.specs.Named.{behind}
-use Rattle.change_rows.proofs.attributes.attribute_names.Given as goal
-
-abbrev pub invariant-loop-item : goal.invariant-loop-item
-invariant-loop-item l = behind l.found (attribute_names (names_in l.names) (drop l.item-index l.items)) ≡ attribute_names (names_in l.names) l.items

@@ -1,9 +1,0 @@
-use Rattle.std.proofs.Common.{◌≡◌, drop}
-use Rattle.semantics.specs.Changes.{any_shared}
-use Rattle.builtin_names.specs.Named.{names_in}
-use Rattle.kernel_defs.proofs.Runs.{seen_all}
-use Rattle.change_rows.proofs.effects.any_shared.Given as goal
-
-abbrev pub invariant-loop-symbol : goal.invariant-loop-symbol
-invariant-loop-symbol l =
-    any_shared (seen_all (names_in l.scene.names.now) l.defs (drop l.symbol-index l.symbols)) ≡ any_shared (seen_all (names_in l.scene.names.now) l.defs l.symbols)

@@ -1,5 +1,0 @@
-use Rattle.journal_laws.proofs.Closed.{sound_closure, complete_closure}
-use Rattle.journal_laws.proofs.closure_is_least.Goals as goal
-
-pub returns : goal.returns
-returns c = record { law = λ names d seeds s. (sound_closure names d seeds s, complete_closure names d seeds s) }

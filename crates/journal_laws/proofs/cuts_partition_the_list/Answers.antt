@@ -1,5 +1,0 @@
-use Rattle.journal_laws.proofs.Cutting.{cuts_partition}
-use Rattle.journal_laws.proofs.cuts_partition_the_list.Goals as goal
-
-pub returns : goal.returns
-returns c = record { law = cuts_partition }

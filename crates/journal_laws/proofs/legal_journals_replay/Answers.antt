@@ -1,5 +1,0 @@
-use Rattle.journal_laws.proofs.Replayed.{whole_good}
-use Rattle.journal_laws.proofs.legal_journals_replay.Goals as goal
-
-pub returns : goal.returns
-returns c = record { law = λ set cells journal ps e. whole_good set journal cells ps e }

@@ -1,5 +1,0 @@
-use Rattle.journal_laws.proofs.Counted.{all_have_results}
-use Rattle.journal_laws.proofs.one_result_after_waiting.Goals as goal
-
-pub returns : goal.returns
-returns c = record { law = all_have_results }

@@ -1,5 +1,0 @@
-use Rattle.journal_laws.proofs.Counted.{one_result}
-use Rattle.journal_laws.proofs.one_result_at_most.Goals as goal
-
-pub returns : goal.returns
-returns c = record { law = one_result }

@@ -1,5 +1,0 @@
-use Rattle.journal_laws.proofs.Grows.{answer_grows, play_grows, cells_grow}
-use Rattle.journal_laws.proofs.run_looks_no_further.Goals as goal
-
-pub returns : goal.returns
-returns c = record { law = (answer_grows, play_grows, cells_grow) }

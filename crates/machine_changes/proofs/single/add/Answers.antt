@@ -1,0 +1,14 @@
+use Rattle.std.proofs.Common.{◌∙◌, sym}
+use Rattle.semantics.specs.Changes.{with_attributes}
+use Rattle.semantics.specs.Definitions.{definition_of}
+use Rattle.builtin_names.specs.Named.{names_in}
+use Rattle.machine_changes.proofs.Going.{goes_on, same_program, write_goes, writes_not}
+use Rattle.machine_changes.proofs.single.add.Goals as goal
+
+pub returns-then-is_protected : goal.returns-then-is_protected
+returns-then-is_protected c = λ used stay rest. rw c.name.ensures (writes_not c.args.symbol (with_attributes c.args.new.now) (definition_of (names_in c.args.scene.now.names.now) c.args.defs.now c.args.symbol) (sym c.is_protected.ensures ∙ c.if-is_protected.true))
+
+pub returns : goal.returns
+returns c =
+    λ used stay rest.
+    goes_on _ (same_program (write_goes (names_in c.args.scene.now.names.now) c.args.symbol (with_attributes c.args.new.now) (definition_of (names_in c.args.scene.now.names.now) c.args.defs.now c.args.symbol) (sym c.is_protected.ensures ∙ c.if-is_protected.false))) (c.set_with.ensures used stay rest)

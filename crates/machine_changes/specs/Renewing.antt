@@ -1,0 +1,32 @@
+-- An own value that is made anew from the old one.
+--     operand_of            what stands behind the old value
+--     next_of, given_by     the expression that is evaluated; the result, from the old value and the new one
+--     left_renewal          the program that is left
+use Rattle.std.specs.Prelude.{negsuc, [], ◌∷◌, Option, Some, None, true, false}
+use Rattle.expr_tree.specs.Tree.{Tree, integer}
+use Rattle.semantics.specs.declared.builtin.Builtin.{Builtin}
+use Rattle.semantics.specs.Names.{Names, make}
+use Rattle.semantics.specs.Program.{Prog, Done, Look, Put}
+use Rattle.semantics.specs.Control.{null}
+use Rattle.semantics.specs.Changes.{change, old_value, new_value}
+use Rattle.machine_changes.specs.declared.renewal.Operand.{Operand}
+use Rattle.machine_changes.specs.declared.renewal.Renewal.{Renewal}
+
+abbrev pub operand_of : Names → Operand → Tree
+operand_of names (Operand.Given x) = x
+operand_of names (Operand.Negated x) = make names Builtin.Times (integer (negsuc 0) ∷ x ∷ [])
+
+abbrev pub next_of : Names → Builtin → Operand → Tree → Tree
+next_of names row operand old = make names row (old ∷ operand_of names operand ∷ [])
+
+abbrev pub given_by : Renewal → Tree → Tree → Tree
+given_by f = elim f.gives_old [ true ↦ old_value | false ↦ new_value ]
+
+-- the new value is there
+abbrev pub renewed : Names → Renewal → Tree → Option Tree → Prog
+renewed names f old None = null names
+renewed names f old (Some v) = Look f.symbol (λ seen. Put f.symbol (record (seen.definition) { own = Some v }) (Done (given_by f old v)))
+
+abbrev pub left_renewal : Names → Renewal → Option Tree → Prog
+left_renewal names f answer =
+    elim f.before [ None ↦ change names f.symbol (next_of names f.row f.operand) (given_by f) | Some old ↦ renewed names f old answer ]

@@ -1,0 +1,33 @@
+-- The program that is left of a row, and the questions that are left.
+--     is_rewriting          the rows of this crate
+--     left, left_machine, left_all      the program that is left; what stays does not matter once a machine has started
+--     questions             the most questions and turns that are left, whatever the answers are
+use Rattle.std.specs.Prelude.{ℕ, Bool, true, false, Option}
+use Rattle.expr_tree.specs.Tree.{Tree}
+use Rattle.semantics.specs.declared.builtin.Builtin.{Builtin}
+use Rattle.semantics.specs.Names.{Names}
+use Rattle.semantics.specs.Program.{Prog, Done}
+use Rattle.rule_frames.specs.Worst.{worst}
+use Rattle.machine_replacing.specs.declared.rewriting.Rewriting.{Rewriting}
+use Rattle.machine_replacing.specs.declared.walk.Walk.{Walk}
+use Rattle.machine_replacing.specs.Rounds.{left_rounds}
+use Rattle.machine_replacing.specs.Walks.{left_walk}
+
+abbrev pub is_rewriting : Builtin → Bool
+is_rewriting Builtin.ReplaceAll = true
+is_rewriting Builtin.ReplaceRepeated = true
+is_rewriting _ = false
+
+-- of ReplaceAll
+abbrev pub left_all : Names → Walk → Option Tree → Prog
+left_all names w answer = left_walk names w answer Done
+
+abbrev pub left_machine : Names → Rewriting → Option Tree → Prog
+left_machine names (Rewriting.All w) answer = left_all names w answer
+left_machine names (Rewriting.Repeated r) answer = left_rounds names r answer
+
+abbrev pub left : Names → Rewriting → Prog → Option Tree → Prog
+left names m stay answer = left_machine names m answer
+
+abbrev pub questions : Names → Rewriting → Option Tree → ℕ
+questions names m answer = worst names (left_machine names m answer)

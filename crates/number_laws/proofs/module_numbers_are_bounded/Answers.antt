@@ -1,5 +1,0 @@
-use Rattle.number_laws.proofs.Paying.{numbers_bounded}
-use Rattle.number_laws.proofs.module_numbers_are_bounded.Goals as goal
-
-pub returns : goal.returns
-returns c = record { law = numbers_bounded }

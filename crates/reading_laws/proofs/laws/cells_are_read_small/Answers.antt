@@ -1,5 +1,0 @@
-use Rattle.reading_laws.proofs.Sizes.{cell_size}
-use Rattle.reading_laws.proofs.laws.cells_are_read_small.Goals as goal
-
-pub returns : goal.returns
-returns c = record { law = λ names find cell e h r. cell_size names find cell e h r }

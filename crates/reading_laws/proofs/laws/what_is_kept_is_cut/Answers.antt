@@ -1,6 +1,0 @@
-use Rattle.reading_laws.proofs.Carries.{carry_whole}
-use Rattle.reading_laws.proofs.Limits.{cuts}
-use Rattle.reading_laws.proofs.laws.what_is_kept_is_cut.Goals as goal
-
-pub returns : goal.returns
-returns c = record { law = λ names room ts x w. carry_whole _ _ _ _ _ _ _ _ _ _ _ (cuts names) w }

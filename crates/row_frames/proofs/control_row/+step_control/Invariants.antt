@@ -1,5 +1,0 @@
-use Rattle.frames_control.specs.Frames.{questions}
-use Rattle.row_frames.proofs.control_row.+step_control.Given as goal
-
-abbrev pub decreases-step_control : goal.decreases-step_control
-decreases-step_control l = questions l.form.now

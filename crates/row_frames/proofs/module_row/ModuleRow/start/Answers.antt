@@ -1,9 +1,0 @@
-use Rattle.builtin_names.specs.Named.{names_in}
-use Rattle.row_frames.proofs.Scopes.{module_read, module_stays}
-use Rattle.row_frames.proofs.module_row.ModuleRow.start.Goals as goal
-
-pub returns-in-Some : goal.returns-in-Some
-returns-in-Some c = record { by = module_read (names_in c.args.names.now) c.args.items.now c.in-Some.scope (rw c.in-Some.is at c.in_ok-read.ensures) }
-
-pub returns-in-None : goal.returns-in-None
-returns-in-None c = record { by = module_stays (names_in c.args.names.now) c.args.items.now (rw c.in-None.is at c.in_ok-read.ensures) }

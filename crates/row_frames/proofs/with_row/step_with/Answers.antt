@@ -1,8 +1,0 @@
-use Rattle.builtin_names.specs.Named.{names_in}
-use Rattle.row_frames.proofs.Falling.{with_steady}
-use Rattle.row_frames.proofs.with_row.step_with.Goals as goal
-
-pub returns : goal.returns
-returns c =
-    let moved = c.step-moved.ensures.moved c.args.scene.now.limits (names_in c.args.scene.now.names.now) in
-    record { stepped = λ stay used. c.whole.ensures.stepped _ stay used _ moved; falls = c.whole.ensures.falls _ _ moved (with_steady (names_in c.args.scene.now.names.now) c.step-moved.new.self) }

@@ -1,5 +1,0 @@
-use Rattle.shift_laws.proofs.Carried.{carried_over}
-use Rattle.shift_laws.proofs.a_closed_set_serves_at_any_module_number.Goals as goal
-
-pub returns : goal.returns
-returns c = record { law = carried_over }

@@ -1,5 +1,0 @@
-use Rattle.shift_laws.proofs.Unseen.{any_module_number}
-use Rattle.shift_laws.proofs.module_numbers_show_in_names_alone.Goals as goal
-
-pub returns : goal.returns
-returns c = record { law = any_module_number }

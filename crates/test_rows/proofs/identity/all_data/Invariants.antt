@@ -1,6 +1,0 @@
-use Rattle.std.proofs.Common.{◌≡◌, drop}
-use Rattle.semantics.specs.Tests.{all_data}
-use Rattle.test_rows.proofs.identity.all_data.Given as goal
-
-abbrev pub invariant-loop-item : goal.invariant-loop-item
-invariant-loop-item l = all_data (drop l.item-index l.items) ≡ all_data l.items
