@@ -1,4 +1,5 @@
-//! What attributes do to the elements of a call: which of them are evaluated, splicing, flattening, threading and sorting.
+//! What attributes do to the elements of a call: which of them are evaluated, splicing, stripping, flattening, threading and sorting.
+//! Each is the step of the sequence of that name in `semantics`; sorting is that of `canon_order`.
 #![tactic(auto)]
 
 mod flattening;

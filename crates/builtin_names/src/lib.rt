@@ -1,4 +1,6 @@
-//! The rows of the built-in table among the names of a script: their symbols, their attributes, and what a row may answer.
+//! The rows of the built-in table among the names of a script: which symbol a row has, which row a symbol is, which attributes a row
+//! has at the start, and what a row may answer (`Fault`). It joins `case_table` and `name_table`, and the crates above speak of rows
+//! through it.
 #![tactic(auto)]
 
 mod attributes;

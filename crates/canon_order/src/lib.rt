@@ -1,4 +1,5 @@
-//! The canonical order of expressions.
+//! The canonical order of expressions that `expr_tree` defines: comparing, sorting, and the law that the order is total. It stands on
+//! `expr_tree`.
 #![tactic(auto)]
 
 ghost use Rattle.std.specs.Prelude.{◌≡◌, ◌↔◌, length, OnOk, OnErr};

@@ -1,4 +1,6 @@
-//! The tables of the names that the language has from the start: the built-in table, and the operators and brackets.
+//! The tables of the names that the language has from the start: the built-in table with its attributes, and the operators and
+//! brackets. Each is written once, by one macro, as the code's rows and as what their contracts compare with the definitions of
+//! `semantics` and `syntax`.
 #![tactic(auto)]
 
 mod builtin_table;

@@ -1,4 +1,4 @@
-// Measures turns of the desk beside the locks of a mutex, where its first argument is `bench`.
+//! Measures turns of the desk beside the locks of a mutex, where its first argument is `bench`; else it does nothing.
 #![tactic(auto)]
 
 mod measure;

@@ -1,5 +1,5 @@
-//! Callers of the desk: two threads that post at one desk, a turn that is kept in a field, a book that contracts
-//! see as a list, and any number of passes.
+//! Callers of the desk: two threads that post at one desk, a turn that is kept in a field, a book that contracts see as a list, and
+//! any number of passes. They show that the contracts of `turn_desk` serve a caller; the program does not use them.
 #![tactic(auto)]
 
 ghost use Rattle.std.specs.Prelude.{◌≡◌, ℕ, ◌+◌, ◌∷◌, [], ◌++◌, length, MatchBool, IfOk, IfErr, IfSome};

@@ -1,4 +1,6 @@
-//! The evaluator: what it does is a run of the program that the definition of an evaluation gives for an expression.
+//! The evaluator: passes to a fixed point by the standard sequence, over a kernel's definitions and any outside. What it does is a
+//! run of the program that the definition of an evaluation gives for an expression. One loop drives every machine of `machine_rows`;
+//! rows that are functions of their elements are those of `rows_elements`.
 #![tactic(auto)]
 
 mod assemble;

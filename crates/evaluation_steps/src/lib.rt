@@ -1,4 +1,6 @@
-//! What the functions of an evaluator say of their calls and their end, and the laws by which such contracts are put together.
+//! The words in which the code of an evaluator speaks of the definition, and the laws by which such contracts are put together: that
+//! a call or a step leads from one program to another, what an evaluation told, and which stop an expression makes that is too large
+//! or too deep. It has the types `Halt`, why an evaluation has no value, and `Outside`, and stands on `semantics`.
 #![tactic(auto)]
 
 ghost use Rattle.std.specs.Prelude.{◌≡◌};

@@ -1,4 +1,7 @@
-//! Expressions: integers, strings, symbols, and heads with elements.
+//! Expressions: integers, strings, symbols, and heads with elements. specs/ holds the definitions: the tree with its size, depth and
+//! limits, identity, the canonical order, and putting in place with scoping. The code has the types that the crates above share:
+//! `Expr`, which is seen as its tree and keeps size and depth beside it, `Sym`, `Text` and `Attrs`, and the records `Limits`, `Stop`
+//! and `Binders`, which definitions cite. It stands on `item_list`.
 #![tactic(auto)]
 
 mod attrs;

@@ -1,4 +1,6 @@
-//! The control forms as machines: a machine asks for the value of an expression and goes on with it, until it has the result of the form.
+//! The control forms as machines: a machine asks for the value of an expression and goes on with it, until it has the result of the
+//! form. A machine knows no definitions and makes no evaluation: it says what it asks, and what is left of its form is a program of
+//! `semantics`.
 #![tactic(auto)]
 
 mod choice;

@@ -1,4 +1,6 @@
-//! Module, Block and With as machines.
+//! Module, Block and With as machines: the locals of a form, the values that they are given, and the body with its locals renamed,
+//! put by or put in place. Whoever drives the machine puts definitions by and takes the module number; putting in place is that of
+//! `substitution`.
 #![tactic(auto)]
 
 mod asking;

@@ -1,4 +1,5 @@
-//! The application of a Function to arguments.
+//! The application of a Function to arguments: by slots, or by parameters that are put in place as the scoping of `substitution` has
+//! it.
 #![tactic(auto)]
 
 mod calls;

@@ -1,4 +1,5 @@
-//! The input form of an expression, and what is shown of a value.
+//! The input form of an expression, with parentheses where levels ask for them, and what an Out line shows of a value. Levels come
+//! from `operator_levels`; strings and integers are written as `show_form` writes them.
 #![tactic(auto)]
 
 mod form;

@@ -1,4 +1,5 @@
-//! Exact arithmetic on integers of 128 bits. What passes them is refused.
+//! Exact arithmetic on integers of 128 bits: each call gives the number of the mathematical function, and OutOfRange exactly where it
+//! does not fit. Sums and products are judged as a whole. It knows nothing of expressions.
 #![tactic(auto)]
 
 mod arithmetic;

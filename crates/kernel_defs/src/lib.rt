@@ -1,4 +1,6 @@
-//! Definitions of symbols: what an assignment is attached to, why one is refused, and the definition after.
+//! Definitions of symbols: `Defs`, what a kernel knows of its symbols, with look-up, changes, and locals that are put by and put
+//! back; and what an assignment is attached to, why one is refused, and the definitions after it. It stands on the rules of
+//! `rule_store` and the shared symbols of `shared_calls`, and on what `builtin_names` says of a symbol at the start.
 #![tactic(auto)]
 
 mod assign;

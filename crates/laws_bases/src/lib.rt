@@ -1,4 +1,5 @@
-//! A law of the bases of symbols. The function here has no code: its contract is the law.
+//! The law of the bases of symbols: an evaluation makes no new base. It is proved by the lemmas of `laws_relations`, and lets a
+//! script have one table of names. The function here has no code: its contract is the law.
 #![tactic(auto)]
 
 ghost use Rattle.laws_bases.specs.Kept.{BasesStay};

@@ -1,4 +1,6 @@
-//! Laws of evaluation on a closed set of symbols. Each function here has no code: its contract is a law.
+//! The law of evaluation on a closed set of symbols: the definitions of the set alone matter. Its proof goes through every row of
+//! `semantics` once, with both sides on one expression; closed sets are those of `journal`. The function here has no code: its
+//! contract is the law.
 #![tactic(auto)]
 
 ghost use Rattle.laws_closure.specs.Frame.{Frame};

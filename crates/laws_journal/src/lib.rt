@@ -1,4 +1,6 @@
-//! Laws of journals. Each function here has no code: its contract is a law.
+//! Laws of journals: sections do not overlap, an item has one result, what a kernel does agrees with the core, a journal grows entry
+//! by entry, and with no kernels a script has at most one. They stand on `journal`. Each function here has no code: its contract is a
+//! law.
 #![tactic(auto)]
 
 ghost use Rattle.laws_journal.specs.Laws.{SectionsApart, OneResult, AllHaveResults, RunGrows, LegalReplays, OneJournal, EntryByEntry, AttemptsAgree, PhaseIsAttempt, ClosureIsLeast, CutsPartition, AttemptsOrdered, LocksAgree};

@@ -1,4 +1,5 @@
-//! Laws over the definitions of the language. Each function here has no code: its contract is a law.
+//! Laws over the definitions of the language in `semantics`: looser limits, the mode, and what a changed definition leaves as it was.
+//! Each function here has no code: its contract is a law.
 #![tactic(auto)]
 
 ghost use Rattle.laws_language.specs.Laws.{LooserKeeps, ModeIndependent, OthersStay, PutLaw};

@@ -1,4 +1,5 @@
-//! The law of applications that make generated names and give none. The function here has no code: its contract is the law.
+//! The law of applications that make generated names and give none: they give their value anywhere. It joins `laws_quiet` and
+//! `laws_shift`. The function here has no code: its contract is the law.
 #![tactic(auto)]
 
 ghost use Rattle.laws_named.specs.Named.{NamedAnywhere};

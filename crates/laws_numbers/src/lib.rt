@@ -1,4 +1,5 @@
-//! Laws of module numbers. Each function here has no code: its contract is a law.
+//! The law of module numbers: how many an evaluation takes. It stands on the definitions of `semantics` and on what `laws_closure`
+//! knows of its programs. The function here has no code: its contract is the law.
 #![tactic(auto)]
 
 ghost use Rattle.laws_numbers.specs.Bound.{NumbersBounded};

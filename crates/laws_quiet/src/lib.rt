@@ -1,4 +1,5 @@
-//! Laws of quiet applications. Each function here has no code: its contract is a law.
+//! Laws of quiet applications: one gives the same value from its bundle, on any kernel, as from the master's definitions. They join
+//! the closed sets of `laws_closure` with the attempts of `journal`. Each function here has no code: its contract is a law.
 #![tactic(auto)]
 
 ghost use Rattle.laws_quiet.specs.Quiet.{AttemptDelivers, BatchAnywhere, QuietAnywhere};

@@ -1,4 +1,5 @@
-//! Laws of input form. Each function here has no code: its contract is a law.
+//! Laws of input form: what it shows is read again as the same expression, and tells expressions apart. They stand on the grammar and
+//! the input form of `syntax`. Each function here has no code: its contract is a law.
 #![tactic(auto)]
 
 ghost use Rattle.laws_readback.specs.Laws.{FullFormIsReadAgain, InputIsOneCell, InputIsReadAgain, InputTellsApart};

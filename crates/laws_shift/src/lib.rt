@@ -1,4 +1,6 @@
-//! Laws of shifted names. Each function here has no code: its contract is a law.
+//! Laws of shifted names: an evaluation goes the same way from another module number, but for the generated names. The rows are
+//! compared by the lemmas of `laws_relations`, and the bound on the numbers taken is that of `laws_numbers`. Each function here has
+//! no code: its contract is a law.
 #![tactic(auto)]
 
 ghost use Rattle.laws_shift.specs.Carried.{CarriedOver};

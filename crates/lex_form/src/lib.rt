@@ -1,4 +1,5 @@
-//! The tokens of a cell.
+//! The cells of a script, and the tokens of a cell with its first lexical fault, as `script_text` and `syntax` define them. A token
+//! is a span of the cell's bytes and a kind, among them the signs of `case_table`.
 #![tactic(auto)]
 
 mod classes;

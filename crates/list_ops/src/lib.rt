@@ -1,4 +1,5 @@
-//! The rows of the built-in table that put lists together, cut them and count in them.
+//! The rows of the built-in table that put lists together, cut them, sort them and count in them, each a function of the row's
+//! elements. Flattening and sorting are those of `attr_steps`.
 #![tactic(auto)]
 
 mod answer;

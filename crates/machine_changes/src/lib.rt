@@ -1,4 +1,6 @@
-//! The rows of the built-in table that change definitions, as one machine: it asks for values, and reads and changes definitions between.
+//! The rows of the built-in table that change definitions, as one machine: Set, UpSet, TagSet and their delayed forms, Unset, Clear,
+//! the rows of attributes, and those that make an own value anew. It asks for values, and reads and changes the definitions of
+//! `kernel_defs` between.
 #![tactic(auto)]
 
 mod assign;

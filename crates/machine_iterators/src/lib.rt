@@ -1,4 +1,5 @@
-//! Do, Table and Sum as one machine: it asks for the parts of the iterator, and then for the body with each value in turn.
+//! Do, Table and Sum as one machine: it asks for the parts of the iterator, and then for the body with each value in turn. Integers
+//! are walked by `number_walks`.
 #![tactic(auto)]
 
 mod body;

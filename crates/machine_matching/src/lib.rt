@@ -1,4 +1,5 @@
-//! The rows that try a pattern or a rule on expressions in turn, as machines: a machine asks for the values of guards, until it has the result of its row.
+//! The rows that try a pattern or a rule on expressions in turn, as machines: MatchQ, MemberQ, FreeQ, Cases and Count. A machine asks
+//! for the values of guards, until it has the result of its row; each trial is one of `rule_frames`.
 #![tactic(auto)]
 
 mod parts;

@@ -1,4 +1,5 @@
-//! ReplaceAll and ReplaceRepeated as a machine: it asks for the values of guards, until it has the result of its row.
+//! ReplaceAll and ReplaceRepeated as a machine: it goes over an expression place by place, tries the rules at each as `rule_frames`
+//! does, and asks for the values of guards, until it has the result of its row.
 #![tactic(auto)]
 
 mod level;

@@ -1,4 +1,5 @@
-//! Every machine of the evaluator as one, with one step over the definitions.
+//! Every machine of the evaluator as one, `Frame`, with one step over the definitions: the machines of control and scoping, of rules,
+//! iterators, changes, matching and replacing, each brought to the moves of `machine_steps`.
 #![tactic(auto)]
 
 mod block_row;

@@ -1,4 +1,6 @@
-//! What machines share that perform programs: where they run, what they do next, and what is told of each step.
+//! What machines share that read and change definitions in a step: the scene in which they run, the moves that they answer, the
+//! attributes of symbols as definitions have them, and the words by which a step is told. It stands on `kernel_defs` and on the words
+//! of `evaluation_steps`.
 #![tactic(auto)]
 
 mod attrs;

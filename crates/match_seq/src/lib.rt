@@ -1,4 +1,6 @@
-//! Matching: the bindings by which a pattern matches an expression, one at a time in their order.
+//! Matching: the bindings by which a pattern matches an expression, one at a time in their order. The definition is a list; the
+//! search is a stack of goals that gives the first of what is left of that list. Which heads are Flat or Orderless it asks of its
+//! caller (`AttrSource`), and Conditions and tests it hands out as guards.
 #![tactic(auto)]
 
 mod choose;

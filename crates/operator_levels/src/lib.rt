@@ -1,5 +1,5 @@
 //! The infix operators: how each binds and what it gives where a cell is read, and how it is shown in input form. Both come from one
-//! table.
+//! table, and are the levels and shapes of `syntax`. It knows nothing of expressions.
 #![tactic(auto)]
 
 mod operator;

@@ -1,4 +1,5 @@
-//! Where bytes come from and go to.
+//! Where bytes come from and go to: the traits `Source` and `Sink`, which count the faults of the outside, with those of memory and
+//! of std behind them, and `read_all`, which reads to the end or says why not. It knows nothing of scripts.
 #![tactic(auto)]
 
 mod input;

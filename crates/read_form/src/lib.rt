@@ -1,4 +1,5 @@
-//! The reading of a cell: its expression, or where it stops being readable.
+//! The reading of a cell: its expression, or where it stops being readable. It turns the tokens of `lex_form` into terminals, one at
+//! a time, for the machine of `phrase_form`, and names into the symbols of `name_table`.
 #![tactic(auto)]
 
 mod blanks;

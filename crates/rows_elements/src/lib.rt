@@ -1,4 +1,5 @@
-//! The rows of the built-in table that are functions of their elements.
+//! All rows of the built-in table that are functions of their elements: `rewrite` asks the crates of such rows in turn, and answers
+//! `None` for a row that is none of theirs.
 #![tactic(auto)]
 
 ghost use Rattle.std.specs.Prelude.{◌≡◌, IfSome, is_some};

@@ -1,4 +1,5 @@
-//! The rows of the built-in table on numbers.
+//! The rows of the built-in table on numbers, each a function of the row's elements; `rewrite` joins them with those of `sum_forms`.
+//! The arithmetic is that of `int_ops`.
 #![tactic(auto)]
 
 mod answers;

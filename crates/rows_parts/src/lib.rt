@@ -1,4 +1,5 @@
-//! The rows of the built-in table that find parts, cut lists into pieces, turn rows into columns and count.
+//! The rows of the built-in table that find parts, cut lists into pieces, turn rows into columns and count, each a function of the
+//! row's elements. Ranges walk by `number_walks`.
 #![tactic(auto)]
 
 mod answer;

@@ -1,4 +1,4 @@
-//! The rows of the built-in table on strings, whose characters are Unicode scalar values.
+//! The rows of the built-in table on strings, whose characters are Unicode scalar values, each a function of the row's elements.
 #![tactic(auto)]
 
 mod strings;

@@ -1,4 +1,5 @@
-//! The rows of the built-in table that compare and test their elements.
+//! The rows of the built-in table that compare and test their elements, each a function of them. OrderedQ takes the order of
+//! `canon_order`.
 #![tactic(auto)]
 
 mod comparison;

@@ -1,4 +1,5 @@
-//! The rules of a symbol, in the order in which they are tried.
+//! A rule with its key, and the rules of a symbol in the order in which they are tried. It knows nothing of definitions:
+//! `kernel_defs` keeps such rules for each symbol.
 #![tactic(auto)]
 
 mod key;

@@ -1,4 +1,6 @@
-//! Runs a script: its words, its cells, and a line for each.
+//! Runs a script: its words, its cells, and a line for each. `run_alone` reads the whole input, finds the names and the cells, has
+//! each cell read, evaluated and shown by the crates below, and writes the line; its clauses say what was read and written for each
+//! status. The definition of the transcript is that of `sequential_transcript`.
 #![tactic(auto)]
 
 mod cell;

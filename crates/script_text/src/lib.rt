@@ -1,4 +1,6 @@
-//! Definitions of texts: bytes, cells, spelling and order of names, full forms and their reader. Each function here is a law.
+//! Definitions of texts, and laws over them: kinds of bytes, the cells of a script, how names are spelled and in which order they
+//! stand, and the full form with the machine that reads it byte by byte. The definitions speak of the trees of `expr_tree`. Each
+//! function here has no code: its contract is a law.
 #![tactic(auto)]
 
 ghost use Rattle.script_text.specs.Laws.{Accepts, FullFormIsLong, GoesOnRightly, OneExpression, ReadAgain, SpelledBack, StopsAlike, StopsAtFirstBad, StopsRightly, TextsCanBeNumbered};

@@ -1,4 +1,5 @@
-//! Shared symbols, and which expressions are accesses of them.
+//! The list of shared symbols, which expressions are accesses of them, and the law that passes send exactly these outward in mode
+//! Item.
 #![tactic(auto)]
 
 ghost use Rattle.shared_calls.specs.Sent.{AccessesAreSent};

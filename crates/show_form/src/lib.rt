@@ -1,4 +1,5 @@
-//! The full form of an expression: its text, and reading it back.
+//! The full form of an expression: its text, the reading of it back with the first byte that none continues, and the names of a text.
+//! It knows nothing of the language, only `expr_tree`, `script_text` and the names of `name_table`.
 #![tactic(auto)]
 
 mod class;

@@ -1,4 +1,5 @@
-//! The rows of sums, products and powers.
+//! The rows of sums, products and powers, with like terms gathered and put in order: `Plus`, `Times`, `Power`, `Minus`, `Subtract`
+//! and `Divide`. It stands on the arithmetic of `int_ops` and the order of `canon_order`.
 #![tactic(auto)]
 
 mod answers;

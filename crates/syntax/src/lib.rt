@@ -1,4 +1,6 @@
-//! The definitions of reading and printing, and laws over them. Each function here has no code: its contract is a law.
+//! The definitions of reading and printing, and laws over them: tokens, the grammar with the syntax offset of a cell that has no
+//! reading, input form, and the lines of a transcript. The names of operators and rows are those of `semantics`, the bytes those of
+//! `script_text`. Each function here has no code: its contract is a law.
 #![tactic(auto)]
 
 ghost use Rattle.syntax.specs.Laws.{OneOffset, OneReading, ReadOrOffset};

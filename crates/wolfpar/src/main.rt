@@ -1,4 +1,5 @@
-//! Runs the script on standard input, and writes its transcript to standard output.
+//! The program: it runs the script on standard input and writes its transcript to standard output, by `run_alone` of `script_run`
+//! over the ports of `port_io`.
 #![tactic(auto)]
 
 use port_io::{StdSink, StdSource};

@@ -1,2 +1,2 @@
-//! Worked journals, each computed by the definitions.
+//! Worked journals, each with what makes it legal or not, computed from the definitions of `journal`. There is no code here.
 #![tactic(auto)]

@@ -1,4 +1,5 @@
-//! Worked scripts with their transcripts, each run as the program runs it. There is no code here but tests.
+//! Worked scripts with their transcripts, each run as the program runs it, the examples of the language's page among them. There is
+//! no code here but tests.
 #![tactic(auto)]
 
 #[cfg(test)]

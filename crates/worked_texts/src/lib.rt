@@ -1,2 +1,3 @@
-//! Worked readings and printed lines, computed from the definitions. There is no code here.
+//! Worked tokens, readings, syntax offsets and printed lines, computed from the definitions of `syntax` and `script_text`. There is
+//! no code here.
 #![tactic(auto)]
