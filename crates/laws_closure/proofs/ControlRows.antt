@@ -9,9 +9,9 @@ use Rattle.semantics.specs.declared.builtin.Builtin.{Builtin}
 use Rattle.semantics.specs.Names.{is_name, is_call, items_of}
 use Rattle.semantics.specs.Definitions.{Share}
 use Rattle.semantics.specs.Program.{Prog, Done}
-use Rattle.semantics.specs.Control.{in_turn, by_truth, conditional, first_true, is_paired, which, connected, while_true, while, most_turns, Values, From, Each as Over, ask_number, up_to, steps_to, bound_or_list, unless_zero, unless_shared, iterator_parts, iterator, locals, over_numbers, over_list, over, inner_form, iterated, applied, nested, nest, until_fixed, fixed_point, folded, fold, selected, select, nested_list, nest_list, folded_list, fold_list, failed, null}
+use Rattle.semantics.specs.Control.{in_turn, by_truth, conditional, first_true, is_paired, which, connected, while_true, while, throw, catch, most_turns, Values, From, Each as Over, ask_number, up_to, steps_to, bound_or_list, unless_zero, unless_shared, iterator_parts, iterator, locals, over_numbers, over_list, over, inner_form, iterated, applied, nested, nest, until_fixed, fixed_point, folded, fold, selected, select, nested_list, nest_list, folded_list, fold_list, failed, null}
 use Rattle.laws_closure.proofs.Inside.{Each, Opt, reversed, listed, called, items}
-use Rattle.laws_closure.proofs.Programs.{Realm, Has, HasAll, LocalIn, Both, done, stop, ask, within, look, turn, check, moded, grows, same_world, later, later_in, later_all, Later, LaterGives, LaterAll, from_later, now, gives_later, all_later, branch, itself, made, gives_name}
+use Rattle.laws_closure.proofs.Programs.{Realm, Has, HasAll, LocalIn, Both, done, stop, throws, ask, catches, within, look, turn, check, moded, grows, same_world, later, later_in, later_all, Later, LaterGives, LaterAll, from_later, now, gives_later, all_later, branch, itself, made, gives_name}
 
 module _ (R : Realm) where
   open R use {names, World, Member, Table, knows}
@@ -67,6 +67,14 @@ module _ (R : Realm) where
   pub while_both : Table → (w : World) (p q : Prog) (es : List Tree) → Later R w p q → HasAll R w es → Both R w (while names p es) (while names q es)
   while_both t w p q (c ∷ e ∷ []) next all = while_true_both t most_turns w c e all.0 all.1.0
   while_both t w p q _ next all = now R w next
+
+  pub throw_both : (w : World) (p q : Prog) (es : List Tree) → Later R w p q → HasAll R w es → Both R w (throw p es) (throw q es)
+  throw_both w p q (e ∷ []) next all = throws all.0
+  throw_both w p q _ next all = now R w next
+
+  pub catch_both : (w : World) (p q : Prog) (es : List Tree) → Later R w p q → HasAll R w es → Both R w (catch p es) (catch q es)
+  catch_both w p q (e ∷ []) next all = catches all.0 (λ u g v one. done one)
+  catch_both w p q _ next all = now R w next
 
   -- ---- iterators
 

@@ -7,9 +7,9 @@ use Rattle.expr_tree.specs.Tree.{Tree}
 use Rattle.expr_tree.specs.Order.{same}
 use Rattle.semantics.specs.Definitions.{Definitions, Shared}
 use Rattle.semantics.specs.Program.{Prog, Mode}
-use Rattle.semantics.specs.Play.{Setting, State, End, Value, Stopped, Quit, Closed, Starved, Play, Over, Evaluator, ending, on_value, leaving_locals, too_large, with_step, with_locals, without_locals, unless_stopped, stepped, settled, if_number_left, now_used, run, changed, judged, passes, eval_at, seen, with_definitions, last_number, after_number}
-use Rattle.laws_language.proofs.Modes.{Used, ended, Sticky, StickyEnd, ending-sticks, on_value-sticks, run-sticks, judged-sticks, passes-sticks, eval_at-sticks}
-use Rattle.laws_closure.proofs.Programs.{Realm, Has, Both, done, stop, leaves, ask, within, look, put, edit, fresh, turn, check, moded, grows, same_world, later}
+use Rattle.semantics.specs.Play.{Setting, State, End, Value, Stopped, Throwing, Thrown, Quit, Closed, Starved, Play, Over, Evaluator, ending, on_value, catching, leaving_locals, too_large, with_step, with_locals, without_locals, unless_stopped, stepped, settled, if_number_left, now_used, run, changed, judged, passed, passes, eval_at, seen, with_definitions, last_number, after_number}
+use Rattle.laws_language.proofs.Modes.{Used, ended, Sticky, StickyEnd, ending-sticks, on_value-sticks, catching-sticks, run-sticks, passed-sticks, passes-sticks, eval_at-sticks}
+use Rattle.laws_closure.proofs.Programs.{Realm, Has, Both, done, stop, leaves, throws, ask, catches, within, look, put, edit, fresh, turn, check, moded, grows, same_world, later}
 use Rattle.laws_closure.proofs.Passes.{pass_both}
 use Rattle.laws_closure.proofs.Agreeing.{Outside, outside_written, outside_locals, outside_back, locals_number, back_number, Agree, written_agree, seen_both, locals_agree, backs_agree, stays_in, none_seen}
 
@@ -29,6 +29,8 @@ module _ (R : Realm) (may : (x : R.World) → R.Numbered x) (shared : List Share
 
   abbrev pub EndIn : World → End → Type 0
   EndIn w (Value v) = Has R w v
+  EndIn w (Throwing v) = Has R w v
+  EndIn w (Thrown v) = Has R w v
   EndIn w _ = Unit {0}
 
   -- the second ends as the first, unless `used` is true in the first
@@ -59,9 +61,20 @@ module _ (R : Realm) (may : (x : R.World) → R.Numbered x) (shared : List Share
   on_value_follows : (w : World) (j k : Tree → State → Play) → Next w j k → NextEnd w (on_value j) (on_value k)
   on_value_follows w j k next u g (Value v) s t one states = next u g v s t one states
   on_value_follows w j k next u g (Stopped c) s t one states = here u (Stopped c) s t tt states
+  on_value_follows w j k next u g (Throwing v) s t one states = here u (Throwing v) s t one states
+  on_value_follows w j k next u g (Thrown v) s t one states = here u (Thrown v) s t one states
   on_value_follows w j k next u g Quit s t one states = here u Quit s t tt states
   on_value_follows w j k next u g Closed s t one states = here u Closed s t tt states
   on_value_follows w j k next u g Starved s t one states = here u Starved s t tt states
+
+  catching_follows : (w : World) (j k : Tree → State → Play) → Next w j k → NextEnd w (catching j) (catching k)
+  catching_follows w j k next u g (Value v) s t one states = next u g v s t one states
+  catching_follows w j k next u g (Stopped c) s t one states = here u (Stopped c) s t tt states
+  catching_follows w j k next u g (Throwing v) s t one states = here u (Throwing v) s t one states
+  catching_follows w j k next u g (Thrown v) s t one states = next u g v s t one states
+  catching_follows w j k next u g Quit s t one states = here u Quit s t tt states
+  catching_follows w j k next u g Closed s t one states = here u Closed s t tt states
+  catching_follows w j k next u g Starved s t one states = here u Starved s t tt states
 
   stepped_follows : (w : World) (b c : Bool) (s t : State) (j k : State → Play) → b ≡ c → States w s t
       → ((s' t' : State) → States w s' t' → Follows w (j s') (k t')) → Follows w (stepped b s j) (stepped c t k)
@@ -99,9 +112,14 @@ module _ (R : Realm) (may : (x : R.World) → R.Numbered x) (shared : List Share
   run_follows ev sticky follow {w} (done {e = e} one) s t states = here w (Value e) s t one states
   run_follows ev sticky follow {w} (stop {c = c}) s t states = here w (Stopped c) s t tt states
   run_follows ev sticky follow {w} leaves s t states = here w Quit s t tt states
+  run_follows ev sticky follow {w} (throws {e = e} one) s t states = here w (Throwing e) s t one states
   run_follows ev sticky follow {w} (ask {e = e} {k = k} {l = l} one next) s t states =
       ending_follows w (on_value (λ v s'. run set ev (k v) s')) (on_value (λ v t'. run set ev (l v) t')) (on_value-sticks (λ v s'. run-sticks set ev sticky (k v) s'))
       (on_value_follows w (λ v s'. run set ev (k v) s') (λ v t'. run set ev (l v) t') (λ u g v s' t' v_in states'. run_follows ev sticky follow (next u g v v_in) s' t' states'))
+      (follow w e s t one states)
+  run_follows ev sticky follow {w} (catches {e = e} {k = k} {l = l} one next) s t states =
+      ending_follows w (catching (λ v s'. run set ev (k v) s')) (catching (λ v t'. run set ev (l v) t')) (catching-sticks (λ v s'. run-sticks set ev sticky (k v) s'))
+      (catching_follows w (λ v s'. run set ev (k v) s') (λ v t'. run set ev (l v) t') (λ u g v s' t' v_in states'. run_follows ev sticky follow (next u g v v_in) s' t' states'))
       (follow w e s t one states)
   run_follows ev sticky follow {w} (within {ls = ls} {e = e} {k = k} {l = l} locals one next) s t states =
       ending_follows w (leaving_locals names s.definitions ls (λ v s'. run set ev (k v) s')) (leaving_locals names t.definitions ls (λ v t'. run set ev (l v) t'))
@@ -181,19 +199,24 @@ module _ (R : Realm) (may : (x : R.World) → R.Numbered x) (shared : List Share
   judged_follows w n j k next e v one s t states =
       unless_follows w (too_large limits v) s t _ _ states (λ s' t' states'. settled_follows w (same v e) n j k next v one s' t' states')
 
+  passed_follows : (w : World) (n : ℕ) (j k : Tree → State → Play) → Next w j k → (e : Tree) → NextEnd w (passed set n j e) (passed set n k e)
+  passed_follows w n j k next e u g (Value v) s t one states = judged_follows u n j k (λ u' g' v' s2 t2 v_in states2. next u' (later R w u u' g g') v' s2 t2 v_in states2) e v one s t states
+  passed_follows w n j k next e u g (Stopped c) s t one states = here u (Stopped c) s t tt states
+  passed_follows w n j k next e u g (Throwing v) s t one states = changed_follows u n _ _ (λ u' g' v' s2 t2 v_in states2. here u' (Thrown v') s2 t2 v_in states2) v one s t states
+  passed_follows w n j k next e u g (Thrown v) s t one states = here u (Thrown v) s t one states
+  passed_follows w n j k next e u g Quit s t one states = here u Quit s t tt states
+  passed_follows w n j k next e u g Closed s t one states = here u Closed s t tt states
+  passed_follows w n j k next e u g Starved s t one states = here u Starved s t tt states
+
   passes_follow : (ev : Evaluator) → Sticky ev → Follow ev → (n : ℕ) → Follow (passes set ev n)
   passes_follow ev sticky follow zero w e s t one states =
-      ending_follows w (on_value (judged set zero (λ v s'. Over (Stopped Stop.Iteration) s') e)) (on_value (judged set zero (λ v t'. Over (Stopped Stop.Iteration) t') e))
-      (on_value-sticks (judged-sticks set zero _ (λ w' u' g'. ended g') e))
-      (on_value_follows w _ _ (λ u g v s' t' v_in states'.
-      judged_follows u zero _ _ (λ u' g' v' s2 t2 v_in' states2. here u' (Stopped Stop.Iteration) s2 t2 tt states2) e v v_in s' t' states'))
-      (run_follows ev sticky follow (pass_both R may w e one) s t states)
+      ending_follows w (passed set zero (λ v s'. Over (Stopped Stop.Iteration) s') e) (passed set zero (λ v t'. Over (Stopped Stop.Iteration) t') e)
+      (passed-sticks set zero _ (λ w' u' g'. ended g') e)
+      (passed_follows w zero _ _ (λ u g v s' t' v_in states'. here u (Stopped Stop.Iteration) s' t' tt states') e) (run_follows ev sticky follow (pass_both R may w e one) s t states)
   passes_follow ev sticky follow (suc n) w e s t one states =
-      ending_follows w (on_value (judged set (suc n) (λ v s'. passes set ev n v s') e)) (on_value (judged set (suc n) (λ v t'. passes set ev n v t') e))
-      (on_value-sticks (judged-sticks set (suc n) _ (λ w' u'. passes-sticks set ev sticky n w' u') e))
-      (on_value_follows w _ _ (λ u g v s' t' v_in states'.
-      judged_follows u (suc n) _ _ (λ u' g' v' s2 t2 v_in' states2. passes_follow ev sticky follow n u' v' s2 t2 v_in' states2) e v v_in s' t' states'))
-      (run_follows ev sticky follow (pass_both R may w e one) s t states)
+      ending_follows w (passed set (suc n) (λ v s'. passes set ev n v s') e) (passed set (suc n) (λ v t'. passes set ev n v t') e)
+      (passed-sticks set (suc n) _ (λ w' u'. passes-sticks set ev sticky n w' u') e)
+      (passed_follows w (suc n) _ _ (λ u g v s' t' v_in states'. passes_follow ev sticky follow n u v s' t' v_in states') e) (run_follows ev sticky follow (pass_both R may w e one) s t states)
 
   pub eval_at_follows : (n : ℕ) → Follow (eval_at set n)
   eval_at_follows zero w e s t one states = here w (Stopped Stop.Recursion) s t tt states

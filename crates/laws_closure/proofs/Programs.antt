@@ -11,7 +11,7 @@ use Rattle.semantics.specs.InPlace.{put_in_place}
 use Rattle.semantics.specs.Rule.{Rule, condition_in, result_in, condition_of, result_of}
 use Rattle.semantics.specs.Match.{Guard, Test, Cond, Found, matches, heads, guard_expression}
 use Rattle.semantics.specs.Definitions.{Definition, has}
-use Rattle.semantics.specs.Program.{Prog, Done, Stops, Quits, Ask, Within, Look, Put, Fresh, Turn, Check, Moded, Local, Mode, Seen, look_all}
+use Rattle.semantics.specs.Program.{Prog, Done, Stops, Quits, Throws, Ask, Catches, Within, Look, Put, Fresh, Turn, Check, Moded, Local, Mode, Seen, look_all}
 use Rattle.semantics.specs.Attempt.{told, try_guards, try_binding, try_bindings, try_rule, try_rules}
 use Rattle.laws_closure.proofs.Inside.{both, Each, Opt, appended, mapped, In, Ins, AllIn, items, packed, AllBound, put_in_place_in}
 use Rattle.laws_closure.proofs.Matching.{GuardIn, FoundIn, matches_in, heads_inside, guard_in}
@@ -75,7 +75,9 @@ module _ (R : Realm) where
     done : {w : World} {e : Tree} → Has w e → Both w (Done e) (Done e)
     stop : {w : World} {c : Stop} → Both w (Stops c) (Stops c)
     leaves : {w : World} → Both w Quits Quits
+    throws : {w : World} {e : Tree} → Has w e → Both w (Throws e) (Throws e)
     ask : {w : World} {e : Tree} {k l : Tree → Prog} → Has w e → ((u : World) → grows w u → (v : Tree) → Has u v → Both u (k v) (l v)) → Both w (Ask e k) (Ask e l)
+    catches : {w : World} {e : Tree} {k l : Tree → Prog} → Has w e → ((u : World) → grows w u → (v : Tree) → Has u v → Both u (k v) (l v)) → Both w (Catches e k) (Catches e l)
     within : {w : World} {ls : List Local} {e : Tree} {k l : Tree → Prog} → Each (LocalIn w) ls → Has w e
         → ((u : World) → grows w u → (v : Tree) → Has u v → Both u (k v) (l v)) → Both w (Within ls e k) (Within ls e l)
     look : {w : World} {s : Sym} {k l : Seen → Prog} → Member w s → ((x y : Seen) → SeenBoth w x y → Both w (k x) (l y)) → Both w (Look s k) (Look s l)

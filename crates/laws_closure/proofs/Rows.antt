@@ -117,6 +117,8 @@ module _ (R : Realm) where
       Control.iterated_both R t Builtin.Table (λ vs. Done (make names Builtin.List vs)) (λ vs. Done (make names Builtin.List vs)) w p q es (λ u g vs vs_in. done (made R u t Builtin.List vs vs_in)) next all
   row_both t w Builtin.Sum may p q es next all =
       Control.iterated_both R t Builtin.Sum (λ vs. Done (make names Builtin.Plus vs)) (λ vs. Done (make names Builtin.Plus vs)) w p q es (λ u g vs vs_in. done (made R u t Builtin.Plus vs vs_in)) next all
+  row_both t w Builtin.Throw may p q es next all = Control.throw_both R w p q es next all
+  row_both t w Builtin.Catch may p q es next all = Control.catch_both R w p q es next all
   row_both t w Builtin.Nest may p q es next all = Control.nest_both R w p q es next all
   row_both t w Builtin.NestList may p q es next all = Control.nest_list_both R t w p q es next all
   row_both t w Builtin.FoldList may p q es next all = Control.fold_list_both R w p q es next all

@@ -1,21 +1,21 @@
--- Looser limits change no evaluation that ended with a value or at Quit.
+-- Looser limits change no evaluation that ended with a value, with a throw or at Quit.
 use Rattle.std.proofs.Common.{◌≡◌, refl, sym, subst, ℕ, zero, suc, ◌≤◌, Bool, true, false, T, ltb, List, [], ◌∷◌, Option, Some, None, is_none, arith, le_trans, lt_of_lt_of_le, le_of_suc-le-suc, not-suc-le-zero, ltb-true, ltb-false, lt-ltb, le-ltb}
 use Rattle.expr_tree.specs.declared.sym.Sym.{Sym}
 use Rattle.expr_tree.specs.Tree.{Tree, size, depth}
 use Rattle.expr_tree.specs.Order.{same}
 use Rattle.semantics.specs.Definitions.{Definitions}
-use Rattle.semantics.specs.Program.{Prog, Done, Stops, Quits, Ask, Within, Section, Open, Look, Put, Fresh, Turn, Check, Outer, Moded, Shown, Call}
+use Rattle.semantics.specs.Program.{Prog, Done, Stops, Quits, Throws, Ask, Catches, Within, Section, Open, Look, Put, Fresh, Turn, Check, Outer, Moded, Shown, Call}
 use Rattle.expr_tree.specs.declared.limits.Stop.{Stop}
 use Rattle.semantics.specs.Pass.{pass}
 use Rattle.expr_tree.specs.declared.limits.Limits.{Limits}
-use Rattle.semantics.specs.Play.{Setting, State, End, Value, Stopped, Quit, Closed, Starved, Reply, Replied, Halted, Shut, Lacking, Play, Over, Calls, Evaluator, ending, on_value, first_cause, too_large, with_step, calling, by_reply, unless_stopped, stepped, settled, if_number_left, leaving, all_among, by_locks, sectioned, opened, run, changed, judged, passes, eval_at, begun}
+use Rattle.semantics.specs.Play.{Setting, State, End, Value, Stopped, Throwing, Thrown, Quit, Closed, Starved, Reply, Replied, Halted, Shut, Lacking, Play, Over, Calls, Evaluator, ending, on_value, catching, first_cause, too_large, with_step, calling, by_reply, unless_stopped, stepped, settled, if_number_left, leaving, all_among, by_locks, sectioned, opened, run, changed, judged, passed, passes, eval_at, begun}
 use Rattle.semantics.specs.Eval.{Event, if_matched, over, eval, same_call}
 use Rattle.laws_language.specs.Laws.{Looser, LooserKeeps, is_final, is_finished, with_limits}
 
 zero-not-suc : {n : ℕ} → zero ≡ suc n → ⊥
 zero-not-suc e = Prim.grind arith
 
--- no replies lead to a value or Quit
+-- no replies lead to a value, a throw or Quit
 data Unfinished : Play → Type 0 where
   ended : {o : End} {s : State} → ¬ (T (is_final o)) → Unfinished (Over o s)
   called : {c : Call} {s : State} {k : Reply → Definitions → Play} → ((r : Reply) (d : Definitions) → Unfinished (k r d)) → Unfinished (Calls c s k)
@@ -48,6 +48,8 @@ ending-keeps stays next (unfinished u) = unfinished (ending-unfinished stays u)
 on_value-stays : (k : Tree → State → Play) → Stays (on_value k)
 on_value-stays k (Value v) s h = absurd (h tt)
 on_value-stays k (Stopped c) s h = ended h
+on_value-stays k (Throwing v) s h = absurd (h tt)
+on_value-stays k (Thrown v) s h = absurd (h tt)
 on_value-stays k Quit s h = ended h
 on_value-stays k Closed s h = ended h
 on_value-stays k Starved s h = ended h
@@ -55,9 +57,29 @@ on_value-stays k Starved s h = ended h
 on_value-keeps : {k l : Tree → State → Play} → Continues k l → EndsContinue (on_value k) (on_value l)
 on_value-keeps next (Value v) s = next v s
 on_value-keeps next (Stopped c) s = ends
+on_value-keeps next (Throwing v) s = ends
+on_value-keeps next (Thrown v) s = ends
 on_value-keeps next Quit s = ends
 on_value-keeps next Closed s = ends
 on_value-keeps next Starved s = ends
+
+catching-stays : (k : Tree → State → Play) → Stays (catching k)
+catching-stays k (Value v) s h = absurd (h tt)
+catching-stays k (Stopped c) s h = ended h
+catching-stays k (Throwing v) s h = absurd (h tt)
+catching-stays k (Thrown v) s h = absurd (h tt)
+catching-stays k Quit s h = ended h
+catching-stays k Closed s h = ended h
+catching-stays k Starved s h = ended h
+
+catching-keeps : {k l : Tree → State → Play} → Continues k l → EndsContinue (catching k) (catching l)
+catching-keeps next (Value v) s = next v s
+catching-keeps next (Stopped c) s = ends
+catching-keeps next (Throwing v) s = ends
+catching-keeps next (Thrown v) s = next v s
+catching-keeps next Quit s = ends
+catching-keeps next Closed s = ends
+catching-keeps next Starved s = ends
 
 by_reply-keeps : {k l : Tree → State → Play} → Continues k l → (r : Reply) (s : State) → Keeps (by_reply r s k) (by_reply r s l)
 by_reply-keeps next (Replied v) s = next v s
@@ -78,6 +100,8 @@ leave-unfinished cause Lacking s = ended (λ h. h)
 leaving-stays : (k : Tree → State → Play) → Stays (leaving k)
 leaving-stays k (Value v) s h = absurd (h tt)
 leaving-stays k (Stopped c) s h = called (λ r d. leave-unfinished c r _)
+leaving-stays k (Throwing v) s h = absurd (h tt)
+leaving-stays k (Thrown v) s h = absurd (h tt)
 leaving-stays k Quit s h = absurd (h tt)
 leaving-stays k Closed s h = ended h
 leaving-stays k Starved s h = ended h
@@ -85,6 +109,8 @@ leaving-stays k Starved s h = ended h
 leaving-keeps : {k l : Tree → State → Play} → Continues k l → EndsContinue (leaving k) (leaving l)
 leaving-keeps next (Value v) s = calling-keeps _ s (λ _ t. next v (opened None t))
 leaving-keeps next (Stopped c) s = calling-keeps _ s (λ _ t. ends)
+leaving-keeps next (Throwing v) s = ends
+leaving-keeps next (Thrown v) s = calling-keeps _ s (λ _ t. ends)
 leaving-keeps next Quit s = ends
 leaving-keeps next Closed s = ends
 leaving-keeps next Starved s = ends
@@ -136,7 +162,9 @@ module _ (set : Setting) (m : Limits) (cons : Looser set.limits m) where
   run-keeps ev ew one (Done e) s = ends
   run-keeps ev ew one (Stops c) s = ends
   run-keeps ev ew one Quits s = ends
+  run-keeps ev ew one (Throws v) s = ends
   run-keeps ev ew one (Ask e k) s = ending-keeps (on_value-stays _) (on_value-keeps (λ v t. run-keeps ev ew one (k v) t)) (one e s)
+  run-keeps ev ew one (Catches e k) s = ending-keeps (catching-stays _) (catching-keeps (λ v t. run-keeps ev ew one (k v) t)) (one e s)
   run-keeps ev ew one (Within ls e k) s =
       ending-keeps (λ o t h. on_value-stays _ o _ h) (λ o t. on_value-keeps (λ v u. run-keeps ev ew one (k v) u) o _) (one e _)
   run-keeps ev ew one (Section locks e k) s =
@@ -168,15 +196,34 @@ module _ (set : Setting) (m : Limits) (cons : Looser set.limits m) where
       → Continues (judged set a j e) (judged (with_limits set m) b k e)
   judged-keeps a b le j k next e v s = unless_stopped-keeps _ _ (fits-keeps set.limits m cons v) s (λ t. settled-keeps (same v e) a b le j k next v t)
 
+  passed-stays : (n : ℕ) (k : Evaluator) (e : Tree) → Stays (passed set n k e)
+  passed-stays n k e (Value v) s h = absurd (h tt)
+  passed-stays n k e (Stopped c) s h = ended h
+  passed-stays n k e (Throwing v) s h = absurd (h tt)
+  passed-stays n k e (Thrown v) s h = absurd (h tt)
+  passed-stays n k e Quit s h = absurd (h tt)
+  passed-stays n k e Closed s h = ended h
+  passed-stays n k e Starved s h = ended h
+
+  passed-keeps : (a b : ℕ) → a ≤ b → (j k : Evaluator) → ((c d : ℕ) → a ≡ suc c → b ≡ suc d → Continues j k) → (e : Tree)
+      → EndsContinue (passed set a j e) (passed (with_limits set m) b k e)
+  passed-keeps a b le j k next e (Value v) s = judged-keeps a b le j k next e v s
+  passed-keeps a b le j k next e (Stopped c) s = ends
+  passed-keeps a b le j k next e (Throwing v) s = changed-keeps a b le _ _ (λ c d _ _ w t. ends) v s
+  passed-keeps a b le j k next e (Thrown v) s = ends
+  passed-keeps a b le j k next e Quit s = ends
+  passed-keeps a b le j k next e Closed s = ends
+  passed-keeps a b le j k next e Starved s = ends
+
   passes-keeps : (ev ew : Evaluator) → Continues ev ew → (a b : ℕ) → a ≤ b → Continues (passes set ev a) (passes (with_limits set m) ew b)
   passes-keeps ev ew one zero zero le e s =
-      ending-keeps (on_value-stays _) (on_value-keeps (judged-keeps zero zero le _ _ (λ c d is _. absurd (zero-not-suc is)) e)) (run-keeps ev ew one (pass set.names e) s)
+      ending-keeps (passed-stays zero _ e) (passed-keeps zero zero le _ _ (λ c d is _. absurd (zero-not-suc is)) e) (run-keeps ev ew one (pass set.names e) s)
   passes-keeps ev ew one zero (suc b) le e s =
-      ending-keeps (on_value-stays _) (on_value-keeps (judged-keeps zero (suc b) le _ _ (λ c d is _. absurd (zero-not-suc is)) e)) (run-keeps ev ew one (pass set.names e) s)
+      ending-keeps (passed-stays zero _ e) (passed-keeps zero (suc b) le _ _ (λ c d is _. absurd (zero-not-suc is)) e) (run-keeps ev ew one (pass set.names e) s)
   passes-keeps ev ew one (suc a) zero le e s = absurd (not-suc-le-zero le)
   passes-keeps ev ew one (suc a) (suc b) le e s =
-      ending-keeps (on_value-stays _)
-      (on_value-keeps (judged-keeps (suc a) (suc b) le _ _ (λ c d _ _ v t. passes-keeps ev ew one a b (le_of_suc-le-suc le) v t) e)) (run-keeps ev ew one (pass set.names e) s)
+      ending-keeps (passed-stays (suc a) _ e)
+      (passed-keeps (suc a) (suc b) le _ _ (λ c d _ _ v t. passes-keeps ev ew one a b (le_of_suc-le-suc le) v t) e) (run-keeps ev ew one (pass set.names e) s)
 
   eval_at-keeps : (a b : ℕ) → a ≤ b → Continues (eval_at set a) (eval_at (with_limits set m) b)
   eval_at-keeps zero b le e s = unfinished (ended (λ h. h))

@@ -4,10 +4,10 @@ use Rattle.expr_tree.specs.declared.sym.Sym.{Sym}
 use Rattle.expr_tree.specs.Tree.{Tree}
 use Rattle.expr_tree.specs.Order.{same}
 use Rattle.semantics.specs.Definitions.{Definitions}
-use Rattle.semantics.specs.Program.{Prog, Done, Stops, Quits, Ask, Within, Section, Open, Look, Put, Fresh, Turn, Check, Outer, Moded, Shown, Call, Mode}
+use Rattle.semantics.specs.Program.{Prog, Done, Stops, Quits, Throws, Ask, Catches, Within, Section, Open, Look, Put, Fresh, Turn, Check, Outer, Moded, Shown, Call, Mode}
 use Rattle.expr_tree.specs.declared.limits.Stop.{Stop}
 use Rattle.semantics.specs.Pass.{pass}
-use Rattle.semantics.specs.Play.{Setting, State, End, Value, Stopped, Quit, Closed, Starved, Reply, Replied, Halted, Shut, Lacking, Play, Over, Calls, Evaluator, ending, on_value, calling, by_reply, unless_stopped, stepped, settled, if_number_left, leaving, all_among, by_locks, sectioned, opened, run, changed, judged, passes, eval_at, begun}
+use Rattle.semantics.specs.Play.{Setting, State, End, Value, Stopped, Throwing, Thrown, Quit, Closed, Starved, Reply, Replied, Halted, Shut, Lacking, Play, Over, Calls, Evaluator, ending, on_value, catching, calling, by_reply, unless_stopped, stepped, settled, if_number_left, leaving, all_among, by_locks, sectioned, opened, run, changed, judged, passed, passes, eval_at, begun}
 use Rattle.semantics.specs.Eval.{Event, if_matched, over, same_call, eval}
 use Rattle.laws_language.specs.Laws.{ModeIndependent, in_mode}
 
@@ -30,9 +30,20 @@ ending-sticks sticky (called h next) = called h (λ r d. ending-sticks sticky (n
 pub on_value-sticks : {k : Tree → State → Play} → Sticky k → StickyEnd (on_value k)
 on_value-sticks sticky (Value v) s h = sticky v s h
 on_value-sticks sticky (Stopped c) s h = ended h
+on_value-sticks sticky (Throwing v) s h = ended h
+on_value-sticks sticky (Thrown v) s h = ended h
 on_value-sticks sticky Quit s h = ended h
 on_value-sticks sticky Closed s h = ended h
 on_value-sticks sticky Starved s h = ended h
+
+pub catching-sticks : {k : Tree → State → Play} → Sticky k → StickyEnd (catching k)
+catching-sticks sticky (Value v) s h = sticky v s h
+catching-sticks sticky (Stopped c) s h = ended h
+catching-sticks sticky (Throwing v) s h = ended h
+catching-sticks sticky (Thrown v) s h = sticky v s h
+catching-sticks sticky Quit s h = ended h
+catching-sticks sticky Closed s h = ended h
+catching-sticks sticky Starved s h = ended h
 
 pub by_reply-sticks : {k : Tree → State → Play} → Sticky k → (r : Reply) (s : State) → s.used ≡ true → Used (by_reply r s k)
 by_reply-sticks sticky (Replied v) s h = sticky v s h
@@ -46,6 +57,8 @@ calling-sticks c s sticky h = called h (λ r d. by_reply-sticks sticky r (record
 pub leaving-sticks : {k : Tree → State → Play} → Sticky k → StickyEnd (leaving k)
 leaving-sticks sticky (Value v) s h = calling-sticks _ s (λ _ t g. sticky v (opened None t) g) h
 leaving-sticks sticky (Stopped c) s h = calling-sticks _ s (λ _ t g. ended g) h
+leaving-sticks sticky (Throwing v) s h = ended h
+leaving-sticks sticky (Thrown v) s h = calling-sticks _ s (λ _ t g. ended g) h
 leaving-sticks sticky Quit s h = ended h
 leaving-sticks sticky Closed s h = ended h
 leaving-sticks sticky Starved s h = ended h
@@ -75,7 +88,9 @@ pub run-sticks : (set : Setting) (ev : Evaluator) → Sticky ev → (p : Prog) (
 run-sticks set ev one (Done e) s h = ended h
 run-sticks set ev one (Stops c) s h = ended h
 run-sticks set ev one Quits s h = ended h
+run-sticks set ev one (Throws v) s h = ended h
 run-sticks set ev one (Ask e k) s h = ending-sticks (on_value-sticks (λ v t. run-sticks set ev one (k v) t)) (one e s h)
+run-sticks set ev one (Catches e k) s h = ending-sticks (catching-sticks (λ v t. run-sticks set ev one (k v) t)) (one e s h)
 run-sticks set ev one (Within ls e k) s h =
     ending-sticks (λ o t g. on_value-sticks (λ v u. run-sticks set ev one (k v) u) o _ g) (one e _ h)
 run-sticks set ev one (Section locks e k) s h =
@@ -103,11 +118,18 @@ settled-sticks false set n k sticky v s h = changed-sticks set n k sticky v s h
 pub judged-sticks : (set : Setting) (n : ℕ) (k : Evaluator) → Sticky k → (e : Tree) → Sticky (judged set n k e)
 judged-sticks set n k sticky e v s h = unless_stopped-sticks _ s (λ t. settled-sticks (same v e) set n k sticky v t) h
 
+pub passed-sticks : (set : Setting) (n : ℕ) (k : Evaluator) → Sticky k → (e : Tree) → StickyEnd (passed set n k e)
+passed-sticks set n k sticky e (Value v) s h = judged-sticks set n k sticky e v s h
+passed-sticks set n k sticky e (Stopped c) s h = ended h
+passed-sticks set n k sticky e (Throwing v) s h = changed-sticks set n _ (λ w t g. ended g) v s h
+passed-sticks set n k sticky e (Thrown v) s h = ended h
+passed-sticks set n k sticky e Quit s h = ended h
+passed-sticks set n k sticky e Closed s h = ended h
+passed-sticks set n k sticky e Starved s h = ended h
+
 pub passes-sticks : (set : Setting) (ev : Evaluator) → Sticky ev → (n : ℕ) → Sticky (passes set ev n)
-passes-sticks set ev one zero e s h =
-    ending-sticks (on_value-sticks (judged-sticks set zero _ (λ w u g. ended g) e)) (run-sticks set ev one (pass set.names e) s h)
-passes-sticks set ev one (suc n) e s h =
-    ending-sticks (on_value-sticks (judged-sticks set (suc n) _ (λ w u. passes-sticks set ev one n w u) e)) (run-sticks set ev one (pass set.names e) s h)
+passes-sticks set ev one zero e s h = ending-sticks (passed-sticks set zero _ (λ w u g. ended g) e) (run-sticks set ev one (pass set.names e) s h)
+passes-sticks set ev one (suc n) e s h = ending-sticks (passed-sticks set (suc n) _ (λ w u. passes-sticks set ev one n w u) e) (run-sticks set ev one (pass set.names e) s h)
 
 pub eval_at-sticks : (set : Setting) (n : ℕ) → Sticky (eval_at set n)
 eval_at-sticks set zero e s h = ended h
@@ -133,9 +155,20 @@ ending-alike sticky next (used u) = used (ending-sticks sticky u)
 on_value-alike : {k l : Tree → State → Play} → AllAlike k l → EndsAlike (on_value k) (on_value l)
 on_value-alike next (Value v) s = next v s
 on_value-alike next (Stopped c) s = ends
+on_value-alike next (Throwing v) s = ends
+on_value-alike next (Thrown v) s = ends
 on_value-alike next Quit s = ends
 on_value-alike next Closed s = ends
 on_value-alike next Starved s = ends
+
+catching-alike : {k l : Tree → State → Play} → AllAlike k l → EndsAlike (catching k) (catching l)
+catching-alike next (Value v) s = next v s
+catching-alike next (Stopped c) s = ends
+catching-alike next (Throwing v) s = ends
+catching-alike next (Thrown v) s = next v s
+catching-alike next Quit s = ends
+catching-alike next Closed s = ends
+catching-alike next Starved s = ends
 
 by_reply-alike : {k l : Tree → State → Play} → AllAlike k l → (r : Reply) (s : State) → Alike (by_reply r s k) (by_reply r s l)
 by_reply-alike next (Replied v) s = next v s
@@ -149,6 +182,8 @@ calling-alike c s next = needs (λ r d. by_reply-alike next r _)
 leaving-alike : {k l : Tree → State → Play} → AllAlike k l → EndsAlike (leaving k) (leaving l)
 leaving-alike next (Value v) s = calling-alike _ s (λ _ t. next v (opened None t))
 leaving-alike next (Stopped c) s = calling-alike _ s (λ _ t. ends)
+leaving-alike next (Throwing v) s = ends
+leaving-alike next (Thrown v) s = calling-alike _ s (λ _ t. ends)
 leaving-alike next Quit s = ends
 leaving-alike next Closed s = ends
 leaving-alike next Starved s = ends
@@ -179,8 +214,11 @@ module _ (set : Setting) (mode : Mode) (kernel : ℕ) where
   run-alike ev ew sticky one (Done e) s = ends
   run-alike ev ew sticky one (Stops c) s = ends
   run-alike ev ew sticky one Quits s = ends
+  run-alike ev ew sticky one (Throws v) s = ends
   run-alike ev ew sticky one (Ask e k) s =
       ending-alike (on_value-sticks (λ v t. run-sticks set ev sticky (k v) t)) (on_value-alike (λ v t. run-alike ev ew sticky one (k v) t)) (one e s)
+  run-alike ev ew sticky one (Catches e k) s =
+      ending-alike (catching-sticks (λ v t. run-sticks set ev sticky (k v) t)) (catching-alike (λ v t. run-alike ev ew sticky one (k v) t)) (one e s)
   run-alike ev ew sticky one (Within ls e k) s =
       ending-alike (λ o t g. on_value-sticks (λ v u. run-sticks set ev sticky (k v) u) o _ g) (λ o t. on_value-alike (λ v u. run-alike ev ew sticky one (k v) u) o _) (one e _)
   run-alike ev ew sticky one (Section locks e k) s =
@@ -210,13 +248,21 @@ module _ (set : Setting) (mode : Mode) (kernel : ℕ) where
   judged-alike : (n : ℕ) (j k : Evaluator) → AllAlike j k → (e : Tree) → AllAlike (judged set n j e) (judged (in_mode set mode kernel) n k e)
   judged-alike n j k next e v s = unless_stopped-alike _ s (λ t. settled-alike (same v e) n j k next v t)
 
+  passed-alike : (n : ℕ) (j k : Evaluator) → AllAlike j k → (e : Tree) → EndsAlike (passed set n j e) (passed (in_mode set mode kernel) n k e)
+  passed-alike n j k next e (Value v) s = judged-alike n j k next e v s
+  passed-alike n j k next e (Stopped c) s = ends
+  passed-alike n j k next e (Throwing v) s = changed-alike n _ _ (λ w t. ends) v s
+  passed-alike n j k next e (Thrown v) s = ends
+  passed-alike n j k next e Quit s = ends
+  passed-alike n j k next e Closed s = ends
+  passed-alike n j k next e Starved s = ends
+
   passes-alike : (ev ew : Evaluator) → Sticky ev → AllAlike ev ew → (n : ℕ) → AllAlike (passes set ev n) (passes (in_mode set mode kernel) ew n)
   passes-alike ev ew sticky one zero e s =
-      ending-alike (on_value-sticks (judged-sticks set zero _ (λ w u g. ended g) e)) (on_value-alike (judged-alike zero _ _ (λ w u. ends) e))
-      (run-alike ev ew sticky one (pass set.names e) s)
+      ending-alike (passed-sticks set zero _ (λ w u g. ended g) e) (passed-alike zero _ _ (λ w u. ends) e) (run-alike ev ew sticky one (pass set.names e) s)
   passes-alike ev ew sticky one (suc n) e s =
-      ending-alike (on_value-sticks (judged-sticks set (suc n) _ (λ w u. passes-sticks set ev sticky n w u) e))
-      (on_value-alike (judged-alike (suc n) _ _ (λ w u. passes-alike ev ew sticky one n w u) e)) (run-alike ev ew sticky one (pass set.names e) s)
+      ending-alike (passed-sticks set (suc n) _ (λ w u. passes-sticks set ev sticky n w u) e)
+      (passed-alike (suc n) _ _ (λ w u. passes-alike ev ew sticky one n w u) e) (run-alike ev ew sticky one (pass set.names e) s)
 
   eval_at-alike : (n : ℕ) → AllAlike (eval_at set n) (eval_at (in_mode set mode kernel) n)
   eval_at-alike zero e s = ends

@@ -12,7 +12,7 @@ use Rattle.semantics.specs.Names.{Names}
 use Rattle.semantics.specs.Definitions.{Definition, Definitions, stored, put}
 use Rattle.semantics.specs.Program.{Mode}
 use Rattle.expr_tree.specs.declared.limits.Limits.{Limits}
-use Rattle.semantics.specs.Play.{Setting, End, Value, Quit, seen, written}
+use Rattle.semantics.specs.Play.{Setting, End, Value, Throwing, Thrown, Quit, seen, written}
 use Rattle.semantics.specs.Eval.{Event, Outcome, Ended, eval}
 
 pub record Looser (l m : Limits) : Type 0 where
@@ -22,9 +22,11 @@ pub record Looser (l m : Limits) : Type 0 where
   pub size : l.size ≤ m.size
   pub depth : l.depth ≤ m.depth
 
--- with a value, or at Quit. A stop inside a section still makes the call Leave, so `Needs` and `Wrong` may hide a stop
+-- with a value, with a throw, or at Quit. A stop inside a section still makes the call Leave, so `Needs` and `Wrong` may hide a stop
 abbrev pub is_final : End → Bool
 is_final (Value v) = true
+is_final (Throwing v) = true
+is_final (Thrown v) = true
 is_final Quit = true
 is_final _ = false
 

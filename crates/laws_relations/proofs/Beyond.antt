@@ -6,9 +6,9 @@ use Rattle.expr_tree.specs.Tree.{Tree}
 use Rattle.expr_tree.specs.Order.{same}
 use Rattle.semantics.specs.Names.{Names}
 use Rattle.semantics.specs.Definitions.{Definitions}
-use Rattle.semantics.specs.Program.{Prog, Done, Stops, Quits, Ask, Within, Section, Open, Look, Put, Fresh, Turn, Check, Outer, Moded, Shown, Call, Local}
+use Rattle.semantics.specs.Program.{Prog, Done, Stops, Quits, Throws, Ask, Catches, Within, Section, Open, Look, Put, Fresh, Turn, Check, Outer, Moded, Shown, Call, Local}
 use Rattle.semantics.specs.Pass.{pass}
-use Rattle.semantics.specs.Play.{Setting, State, End, Value, Stopped, Quit, Closed, Starved, Reply, Play, Over, Calls, Evaluator, ending, on_value, unless_stopped, stepped, settled, if_number_left, leaving, without_locals, all_among, by_locks, sectioned, run, changed, judged, passes, eval_at, put_locals, put_back}
+use Rattle.semantics.specs.Play.{Setting, State, End, Value, Stopped, Throwing, Thrown, Quit, Closed, Starved, Reply, Play, Over, Calls, Evaluator, ending, on_value, catching, unless_stopped, stepped, settled, if_number_left, leaving, without_locals, all_among, by_locks, sectioned, run, changed, judged, passed, passes, eval_at, put_locals, put_back}
 
 -- n numbers are taken, in no more than m steps
 abbrev pub Past : ℕ → ℕ → State → Type 0
@@ -32,13 +32,26 @@ module _ (n m : ℕ) where
   pub on_value-far : {k : Tree → State → Play} → Far k → FarEnd (on_value k)
   on_value-far far (Value v) s h = far v s h
   on_value-far far (Stopped c) s h = over h
+  on_value-far far (Throwing v) s h = over h
+  on_value-far far (Thrown v) s h = over h
   on_value-far far Quit s h = over h
   on_value-far far Closed s h = over h
   on_value-far far Starved s h = over h
 
+  pub catching-far : {k : Tree → State → Play} → Far k → FarEnd (catching k)
+  catching-far far (Value v) s h = far v s h
+  catching-far far (Stopped c) s h = over h
+  catching-far far (Throwing v) s h = over h
+  catching-far far (Thrown v) s h = far v s h
+  catching-far far Quit s h = over h
+  catching-far far Closed s h = over h
+  catching-far far Starved s h = over h
+
   leaving-far : (k : Tree → State → Play) → FarEnd (leaving k)
   leaving-far k (Value v) s h = calls
   leaving-far k (Stopped c) s h = calls
+  leaving-far k (Throwing v) s h = over h
+  leaving-far k (Thrown v) s h = calls
   leaving-far k Quit s h = over h
   leaving-far k Closed s h = over h
   leaving-far k Starved s h = over h
@@ -79,7 +92,9 @@ module _ (n m : ℕ) where
     run-far ev one (Done e) s h = over h
     run-far ev one (Stops c) s h = over h
     run-far ev one Quits s h = over h
+    run-far ev one (Throws v) s h = over h
     run-far ev one (Ask e k) s h = ending-far (on_value-far (λ v t. run-far ev one (k v) t)) (one e s h)
+    run-far ev one (Catches e k) s h = ending-far (catching-far (λ v t. run-far ev one (k v) t)) (one e s h)
     run-far ev one (Within ls e k) s h =
         ending-far (λ o t g. on_value-far (λ v u. run-far ev one (k v) u) o _ (back-past set.names s.definitions ls t g))
         (one e _ (subst (λ i. n ≤ i) (sym (put_number set.names ls s.definitions)) h.0, h.1))
@@ -103,12 +118,21 @@ module _ (n m : ℕ) where
     settled-far true i k far v s h = over h
     settled-far false i k far v s h = changed-far i k far v s h
 
-    pub judged-far : (i : ℕ) (k : Evaluator) → Far k → (e : Tree) → Far (judged set i k e)
+    judged-far : (i : ℕ) (k : Evaluator) → Far k → (e : Tree) → Far (judged set i k e)
     judged-far i k far e v s h = unless_stopped-far _ s (λ t. settled-far (same v e) i k far v t) h
 
+    pub passed-far : (i : ℕ) (k : Evaluator) → Far k → (e : Tree) → FarEnd (passed set i k e)
+    passed-far i k far e (Value v) s h = judged-far i k far e v s h
+    passed-far i k far e (Stopped c) s h = over h
+    passed-far i k far e (Throwing v) s h = changed-far i _ (λ w t g. over g) v s h
+    passed-far i k far e (Thrown v) s h = over h
+    passed-far i k far e Quit s h = over h
+    passed-far i k far e Closed s h = over h
+    passed-far i k far e Starved s h = over h
+
     pub passes-far : (ev : Evaluator) → Far ev → (i : ℕ) → Far (passes set ev i)
-    passes-far ev one zero e s h = ending-far (on_value-far (judged-far zero _ (λ w u g. over g) e)) (run-far ev one (pass set.names e) s h)
-    passes-far ev one (suc i) e s h = ending-far (on_value-far (judged-far (suc i) _ (λ w u. passes-far ev one i w u) e)) (run-far ev one (pass set.names e) s h)
+    passes-far ev one zero e s h = ending-far (passed-far zero _ (λ w u g. over g) e) (run-far ev one (pass set.names e) s h)
+    passes-far ev one (suc i) e s h = ending-far (passed-far (suc i) _ (λ w u. passes-far ev one i w u) e) (run-far ev one (pass set.names e) s h)
 
     pub eval_at-far : (i : ℕ) → Far (eval_at set i)
     eval_at-far zero e s h = over h

@@ -6,12 +6,12 @@ use Rattle.expr_tree.specs.declared.sym.Sym.{Sym}
 use Rattle.expr_tree.specs.Tree.{Tree, integer}
 use Rattle.semantics.specs.declared.builtin.Builtin.{Builtin}
 use Rattle.semantics.specs.Program.{Prog, Done}
-use Rattle.semantics.specs.Control.{most_turns, in_turn, by_truth, conditional, first_true, is_paired, which, connected, while_true, while, Values, From, Each, ask_number, bound_or_list, unless_shared, iterator_parts, iterator, locals, over_numbers, over_list, over, inner_form, iterated, applied, nested, nest, until_fixed, fixed_point, folded, fold, selected, select, nested_list, nest_list, folded_list, fold_list}
+use Rattle.semantics.specs.Control.{most_turns, in_turn, by_truth, conditional, first_true, is_paired, which, connected, while_true, while, throw, catch, Values, From, Each, ask_number, bound_or_list, unless_shared, iterator_parts, iterator, locals, over_numbers, over_list, over, inner_form, iterated, applied, nested, nest, until_fixed, fixed_point, folded, fold, selected, select, nested_list, nest_list, folded_list, fold_list}
 use Rattle.laws_relations.proofs.Relate.{Opt, none, some, all_nil, all_cons, branch}
 use Rattle.laws_relations.proofs.Listed.{reverse2, same_case}
 use Rattle.laws_relations.proofs.Relation.{int, str, sym, node, listed-like, items-like, call-like, same-like, is_call-like, make-like}
 use Rattle.laws_relations.proofs.Kin.{Kin, LikeTree, LikeTrees, LikeLocals}
-use Rattle.laws_relations.proofs.Simulation.{Both, Next, NextList, ask, within, done, stop, look, turn, check, moded}
+use Rattle.laws_relations.proofs.Simulation.{Both, Next, NextList, throws, ask, catches, within, done, stop, look, turn, check, moded}
 use Rattle.laws_relations.proofs.Programs.{name-both, made-both, by_name-both}
 
 module _ (K : Kin) where
@@ -61,6 +61,14 @@ module _ (K : Kin) where
   pub while-both : {p q : Prog} {es fs : List Tree} → Both K p q → LikeTrees K es fs → Both K (while names p es) (while names q fs)
   while-both stay (all_cons c (all_cons e all_nil)) = while_true-both most_turns c e
   while-both stay _ = stay
+
+  pub throw-both : {p q : Prog} {es fs : List Tree} → Both K p q → LikeTrees K es fs → Both K (throw p es) (throw q fs)
+  throw-both stay (all_cons e all_nil) = throws e
+  throw-both stay _ = stay
+
+  pub catch-both : {p q : Prog} {es fs : List Tree} → Both K p q → LikeTrees K es fs → Both K (catch p es) (catch q fs)
+  catch-both stay (all_cons e all_nil) = catches e (λ v x same. done same)
+  catch-both stay _ = stay
 
   -- ---- iterators
 

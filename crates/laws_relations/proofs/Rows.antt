@@ -126,6 +126,8 @@ module _ (K : Kin) where
   row-both Builtin.Do stay l = Control.iterated-both K Builtin.Do _ _ (λ vs xs all. name-both K Builtin.Null) stay l
   row-both Builtin.Table stay l = Control.iterated-both K Builtin.Table _ _ (λ vs xs all. made-both K Builtin.List all) stay l
   row-both Builtin.Sum stay l = Control.iterated-both K Builtin.Sum _ _ (λ vs xs all. made-both K Builtin.Plus all) stay l
+  row-both Builtin.Throw stay l = Control.throw-both K stay l
+  row-both Builtin.Catch stay l = Control.catch-both K stay l
   row-both Builtin.Nest stay l = Control.nest-both K stay l
   row-both Builtin.NestList stay l = Control.nest_list-both K stay l
   row-both Builtin.FoldList stay l = Control.fold_list-both K stay l

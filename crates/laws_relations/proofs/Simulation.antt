@@ -8,11 +8,11 @@ use Rattle.expr_tree.specs.declared.limits.Stop.{Stop}
 use Rattle.expr_tree.specs.Tree.{Tree}
 use Rattle.expr_tree.specs.Order.{same}
 use Rattle.semantics.specs.Definitions.{Definition}
-use Rattle.semantics.specs.Program.{Prog, Done, Stops, Quits, Ask, Within, Look, Put, Fresh, Turn, Check, Moded, Local, Mode, Seen}
+use Rattle.semantics.specs.Program.{Prog, Done, Stops, Quits, Throws, Ask, Catches, Within, Look, Put, Fresh, Turn, Check, Moded, Local, Mode, Seen}
 use Rattle.semantics.specs.Pass.{pass}
-use Rattle.semantics.specs.Play.{Setting, State, End, Value, Stopped, Quit, Play, Over, Evaluator, ending, on_value, leaving_locals, too_large, with_step, with_locals, without_locals, unless_stopped, stepped, settled, if_number_left, now_used, run, changed, judged, passes, eval_at, seen, written, with_definitions, last_number, after_number}
-use Rattle.laws_language.proofs.Modes.{Used, ended, Sticky, StickyEnd, ending-sticks, on_value-sticks, run-sticks, judged-sticks, passes-sticks, eval_at-sticks}
-use Rattle.laws_relations.proofs.Beyond.{Past, Beyond, Far, FarEnd, back-past, ending-far, on_value-far, run-far, judged-far, passes-far, eval_at-far}
+use Rattle.semantics.specs.Play.{Setting, State, End, Value, Stopped, Throwing, Thrown, Quit, Play, Over, Evaluator, ending, on_value, catching, leaving_locals, too_large, with_step, with_locals, without_locals, unless_stopped, stepped, settled, if_number_left, now_used, run, changed, judged, passed, passes, eval_at, seen, written, with_definitions, last_number, after_number}
+use Rattle.laws_language.proofs.Modes.{Used, ended, Sticky, StickyEnd, ending-sticks, on_value-sticks, catching-sticks, run-sticks, passed-sticks, passes-sticks, eval_at-sticks}
+use Rattle.laws_relations.proofs.Beyond.{Past, Beyond, Far, FarEnd, back-past, ending-far, on_value-far, catching-far, run-far, passed-far, passes-far, eval_at-far}
 use Rattle.laws_relations.proofs.Kin.{Kin, LikeTree, LikeTrees, LikeLocals, LikeDefined}
 
 module _ (K : Kin) where
@@ -23,7 +23,9 @@ module _ (K : Kin) where
     done : {e f : Tree} → LikeTree K e f → Both (Done e) (Done f)
     stop : {c : Stop} → Both (Stops c) (Stops c)
     leaves : Both Quits Quits
+    throws : {v x : Tree} → LikeTree K v x → Both (Throws v) (Throws x)
     ask : {e f : Tree} {k l : Tree → Prog} → LikeTree K e f → ((v x : Tree) → LikeTree K v x → Both (k v) (l x)) → Both (Ask e k) (Ask f l)
+    catches : {e f : Tree} {k l : Tree → Prog} → LikeTree K e f → ((v x : Tree) → LikeTree K v x → Both (k v) (l x)) → Both (Catches e k) (Catches f l)
     within : {ls ms : List Local} {e f : Tree} {k l : Tree → Prog} → LikeLocals K ls ms → LikeTree K e f → ((v x : Tree) → LikeTree K v x → Both (k v) (l x)) → Both (Within ls e k) (Within ms f l)
     look : {s t : Sym} {k l : Seen → Prog} → Symbols s t → ((x y : Seen) → LikeDefined K x.definition y.definition → x.shared ≡ y.shared → Both (k x) (l y)) → Both (Look s k) (Look t l)
     put : {s t : Sym} {d c : Definition} {p q : Prog} → Symbols s t → LikeDefined K d c → Both p q → Both (Put s d p) (Put t c q)
@@ -42,6 +44,8 @@ module _ (K : Kin) where
   pub data Ends : End → End → Type 0 where
     value : {v x : Tree} → LikeTree K v x → Ends (Value v) (Value x)
     stopped : {c : Stop} → Ends (Stopped c) (Stopped c)
+    throwing : {v x : Tree} → LikeTree K v x → Ends (Throwing v) (Throwing x)
+    thrown : {v x : Tree} → LikeTree K v x → Ends (Thrown v) (Thrown x)
     quit : Ends Quit Quit
 
   -- both or none has taken the last number, or the first is past the bound
@@ -96,7 +100,16 @@ module _ (K : Kin) where
     on_value-alike : (j k : Tree → State → Play) → Onward j k → OnwardEnd (on_value j) (on_value k)
     on_value-alike j k next _ _ s t (value one) states = next _ _ s t one states
     on_value-alike j k next _ _ s t stopped states = quiet stopped states
+    on_value-alike j k next _ _ s t (throwing one) states = quiet (throwing one) states
+    on_value-alike j k next _ _ s t (thrown one) states = quiet (thrown one) states
     on_value-alike j k next _ _ s t quit states = quiet quit states
+
+    catching-alike : (j k : Tree → State → Play) → Onward j k → OnwardEnd (catching j) (catching k)
+    catching-alike j k next _ _ s t (value one) states = next _ _ s t one states
+    catching-alike j k next _ _ s t stopped states = quiet stopped states
+    catching-alike j k next _ _ s t (throwing one) states = quiet (throwing one) states
+    catching-alike j k next _ _ s t (thrown one) states = next _ _ s t one states
+    catching-alike j k next _ _ s t quit states = quiet quit states
 
     stepped-alike : (b c : Bool) (s t : State) (j k : State → Play) → ltb s.steps set.limits.steps ≡ b → b ≡ c → States s t → OnwardState j k → Quietly (stepped b s j) (stepped c t k)
     stepped-alike true true s t j k left e states next = next _ _ (R.step s t states left)
@@ -134,10 +147,16 @@ module _ (K : Kin) where
     run-alike ev ew sticky far follow (done one) s t states = quiet (value one) states
     run-alike ev ew sticky far follow stop s t states = quiet stopped states
     run-alike ev ew sticky far follow leaves s t states = quiet quit states
+    run-alike ev ew sticky far follow (throws one) s t states = quiet (throwing one) states
     run-alike ev ew sticky far follow (ask {e = e} {f = f} {k = k} {l = l} one next) s t states =
         ending-alike (on_value (λ v s'. run set ev (k v) s')) (on_value (λ x t'. run set ew (l x) t')) (on_value-sticks (λ v s'. run-sticks set ev sticky (k v) s'))
         (on_value-far bound most_steps (λ v s'. run-far bound most_steps set R.limited ev far (k v) s'))
         (on_value-alike (λ v s'. run set ev (k v) s') (λ x t'. run set ew (l x) t') (λ v x s' t' same states'. run-alike ev ew sticky far follow (next v x same) s' t' states'))
+        (follow e f s t one states)
+    run-alike ev ew sticky far follow (catches {e = e} {f = f} {k = k} {l = l} one next) s t states =
+        ending-alike (catching (λ v s'. run set ev (k v) s')) (catching (λ x t'. run set ew (l x) t')) (catching-sticks (λ v s'. run-sticks set ev sticky (k v) s'))
+        (catching-far bound most_steps (λ v s'. run-far bound most_steps set R.limited ev far (k v) s'))
+        (catching-alike (λ v s'. run set ev (k v) s') (λ x t'. run set ew (l x) t') (λ v x s' t' same states'. run-alike ev ew sticky far follow (next v x same) s' t' states'))
         (follow e f s t one states)
     run-alike ev ew sticky far follow (within {ls = ls} {ms = ms} {e = e} {f = f} {k = k} {l = l} locals one next) s t states =
         ending-alike (leaving_locals set.names s.definitions ls (λ v s'. run set ev (k v) s')) (leaving_locals set.names t.definitions ms (λ x t'. run set ew (l x) t'))
@@ -174,18 +193,23 @@ module _ (K : Kin) where
     judged-alike n j k next e f before v x s t one states =
         unless-alike _ _ s t _ _ (R.sizes v x one) states (λ s' t' states'. settled-alike _ _ (R.sames e f v x before one) n j k next v x s' t' one states')
 
+    passed-alike : (n : ℕ) (j k : Tree → State → Play) → Onward j k → (e f : Tree) → LikeTree K e f → OnwardEnd (passed set n j e) (passed set n k f)
+    passed-alike n j k next e f before _ _ s t (value one) states = judged-alike n j k next e f before _ _ s t one states
+    passed-alike n j k next e f before _ _ s t stopped states = quiet stopped states
+    passed-alike n j k next e f before _ _ s t (throwing one) states = changed-alike n _ _ (λ v x s' t' same states'. quiet (thrown same) states') _ _ s t one states
+    passed-alike n j k next e f before _ _ s t (thrown one) states = quiet (thrown one) states
+    passed-alike n j k next e f before _ _ s t quit states = quiet quit states
+
     passes-alike : (ev ew : Evaluator) → Sticky ev → Far bound most_steps ev → Follow ev ew → (n : ℕ) → Follow (passes set ev n) (passes set ew n)
     passes-alike ev ew sticky far follow zero e f s t one states =
-        ending-alike (on_value (judged set zero (λ v s'. Over (Stopped Stop.Iteration) s') e)) (on_value (judged set zero (λ v t'. Over (Stopped Stop.Iteration) t') f))
-        (on_value-sticks (judged-sticks set zero _ (λ w u g. ended g) e))
-        (on_value-far bound most_steps (judged-far bound most_steps set R.limited zero _ (λ w u g. Beyond.over g) e))
-        (on_value-alike _ _ (judged-alike zero _ _ (λ v x s' t' same states'. quiet stopped states') e f one))
-        (run-alike ev ew sticky far follow (R.passed e f one) s t states)
+        ending-alike (passed set zero (λ v s'. Over (Stopped Stop.Iteration) s') e) (passed set zero (λ v t'. Over (Stopped Stop.Iteration) t') f)
+        (passed-sticks set zero _ (λ w u g. ended g) e) (passed-far bound most_steps set R.limited zero _ (λ w u g. Beyond.over g) e)
+        (passed-alike zero _ _ (λ v x s' t' same states'. quiet stopped states') e f one) (run-alike ev ew sticky far follow (R.passed e f one) s t states)
     passes-alike ev ew sticky far follow (suc n) e f s t one states =
-        ending-alike (on_value (judged set (suc n) (λ v s'. passes set ev n v s') e)) (on_value (judged set (suc n) (λ v t'. passes set ew n v t') f))
-        (on_value-sticks (judged-sticks set (suc n) _ (λ w u. passes-sticks set ev sticky n w u) e))
-        (on_value-far bound most_steps (judged-far bound most_steps set R.limited (suc n) _ (λ w u. passes-far bound most_steps set R.limited ev far n w u) e))
-        (on_value-alike _ _ (judged-alike (suc n) _ _ (λ v x s' t' same states'. passes-alike ev ew sticky far follow n v x s' t' same states') e f one))
+        ending-alike (passed set (suc n) (λ v s'. passes set ev n v s') e) (passed set (suc n) (λ v t'. passes set ew n v t') f)
+        (passed-sticks set (suc n) _ (λ w u. passes-sticks set ev sticky n w u) e)
+        (passed-far bound most_steps set R.limited (suc n) _ (λ w u. passes-far bound most_steps set R.limited ev far n w u) e)
+        (passed-alike (suc n) _ _ (λ v x s' t' same states'. passes-alike ev ew sticky far follow n v x s' t' same states') e f one)
         (run-alike ev ew sticky far follow (R.passed e f one) s t states)
 
     -- an evaluation that ends with `used` false and its number below the bound is followed by each evaluation of a related expression from a related state

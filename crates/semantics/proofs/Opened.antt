@@ -4,10 +4,10 @@ use Rattle.expr_tree.specs.declared.sym.Sym.{Sym}
 use Rattle.expr_tree.specs.Tree.{Tree}
 use Rattle.expr_tree.specs.Order.{same}
 use Rattle.semantics.specs.Definitions.{Definitions}
-use Rattle.semantics.specs.Program.{Prog, Done, Stops, Quits, Ask, Within, Section, Open, Look, Put, Fresh, Turn, Check, Outer, Moded, Shown, Request, Sends, Enter, Leave}
+use Rattle.semantics.specs.Program.{Prog, Done, Stops, Quits, Throws, Ask, Catches, Within, Section, Open, Look, Put, Fresh, Turn, Check, Outer, Moded, Shown, Request, Sends, Enter, Leave}
 use Rattle.expr_tree.specs.declared.limits.Stop.{Stop}
 use Rattle.semantics.specs.Pass.{pass}
-use Rattle.semantics.specs.Play.{Setting, State, End, Value, Stopped, Quit, Closed, Starved, Reply, Replied, Halted, Shut, Lacking, Play, Over, Evaluator, ending, on_value, without_locals, calling, by_reply, unless_stopped, stepped, settled, if_number_left, all_among, by_locks, sectioned, leaving, opened, run, changed, judged, passes, eval_at, begun, with_definitions}
+use Rattle.semantics.specs.Play.{Setting, State, End, Value, Stopped, Throwing, Thrown, Quit, Closed, Starved, Reply, Replied, Halted, Shut, Lacking, Play, Over, Evaluator, ending, on_value, catching, without_locals, calling, by_reply, unless_stopped, stepped, settled, if_number_left, all_among, by_locks, sectioned, leaving, opened, run, changed, judged, passed, passes, eval_at, begun, with_definitions}
 use Rattle.semantics.specs.Opened.{opens, Still, Orderly, ended, called, SectionsInOrder}
 
 -- whether a section is open in a state
@@ -25,6 +25,8 @@ still : (a : Bool) (o : End) (now : Bool) → (a ≡ true → now ≡ true) → 
 still false o now kept = tt
 still true (Value v) now kept = kept refl
 still true (Stopped c) now kept = kept refl
+still true (Throwing v) now kept = kept refl
+still true (Thrown v) now kept = kept refl
 still true Quit now kept = tt
 still true Closed now kept = tt
 still true Starved now kept = tt
@@ -44,9 +46,20 @@ ending-orderly next (called e may f) = called e may (λ r d. ending-orderly next
 on_value-orderly : (a b : Bool) → (a ≡ true → b ≡ true) → (k : Tree → State → Play) → Carries a k → (o : End) (s : State) → Still b o (open_in s) → Orderly a (open_in s) (on_value k o s)
 on_value-orderly a b cons k next (Value v) s h = next v s (λ e. subst (λ x. Still x (Value v) (open_in s)) (cons e) h)
 on_value-orderly a b cons k next (Stopped c) s h = ended refl (still_in a b (Stopped c) (open_in s) cons h)
+on_value-orderly a b cons k next (Throwing v) s h = ended refl (still_in a b (Throwing v) (open_in s) cons h)
+on_value-orderly a b cons k next (Thrown v) s h = ended refl (still_in a b (Thrown v) (open_in s) cons h)
 on_value-orderly a b cons k next Quit s h = ended refl (still_in a b Quit (open_in s) cons h)
 on_value-orderly a b cons k next Closed s h = ended refl (still_in a b Closed (open_in s) cons h)
 on_value-orderly a b cons k next Starved s h = ended refl (still_in a b Starved (open_in s) cons h)
+
+catching-orderly : (a b : Bool) → (a ≡ true → b ≡ true) → (k : Tree → State → Play) → Carries a k → (o : End) (s : State) → Still b o (open_in s) → Orderly a (open_in s) (catching k o s)
+catching-orderly a b cons k next (Value v) s h = next v s (λ e. subst (λ x. Still x (Value v) (open_in s)) (cons e) h)
+catching-orderly a b cons k next (Stopped c) s h = ended refl (still_in a b (Stopped c) (open_in s) cons h)
+catching-orderly a b cons k next (Throwing v) s h = ended refl (still_in a b (Throwing v) (open_in s) cons h)
+catching-orderly a b cons k next (Thrown v) s h = next v s (λ e. subst (λ x. Still x (Thrown v) (open_in s)) (cons e) h)
+catching-orderly a b cons k next Quit s h = ended refl (still_in a b Quit (open_in s) cons h)
+catching-orderly a b cons k next Closed s h = ended refl (still_in a b Closed (open_in s) cons h)
+catching-orderly a b cons k next Starved s h = ended refl (still_in a b Starved (open_in s) cons h)
 
 by_reply-orderly : (a : Bool) (k : Tree → State → Play) → Carries a k → (r : Reply) (s : State) → Kept a s → Orderly a (open_in s) (by_reply r s k)
 by_reply-orderly a k next (Replied v) s kept = next v s kept
@@ -87,6 +100,14 @@ leaving-orderly a outside k next (Stopped c) s h = called refl (subst T (sym h) 
     go (Halted x) d = over a _ (with_definitions d s) (λ e. absurd (outside e))
     go Shut d = over a _ (with_definitions d s) (λ e. absurd (outside e))
     go Lacking d = over a _ (with_definitions d s) (λ e. absurd (outside e))
+leaving-orderly a outside k next (Throwing v) s h = over a _ s (λ e. absurd (outside e))
+leaving-orderly a outside k next (Thrown v) s h = called refl (subst T (sym h) tt) go
+  where
+    go : (r : Reply) (d : Definitions) → Orderly a (opens Leave r (open_in s)) (by_reply r (with_definitions d s) (λ _ t. Over (Thrown v) (opened None t)))
+    go (Replied w) d = over a _ (opened None (with_definitions d s)) (λ e. absurd (outside e))
+    go (Halted x) d = over a _ (with_definitions d s) (λ e. absurd (outside e))
+    go Shut d = over a _ (with_definitions d s) (λ e. absurd (outside e))
+    go Lacking d = over a _ (with_definitions d s) (λ e. absurd (outside e))
 leaving-orderly a outside k next Quit s h = over a _ s (λ e. absurd (outside e))
 leaving-orderly a outside k next Closed s h = over a _ s (λ e. absurd (outside e))
 leaving-orderly a outside k next Starved s h = over a _ s (λ e. absurd (outside e))
@@ -120,7 +141,9 @@ pub run-orderly : (set : Setting) (ev : Evaluator) → InOrder ev → (p : Prog)
 run-orderly set ev one (Done e) s a kept = over a _ s kept
 run-orderly set ev one (Stops c) s a kept = over a _ s kept
 run-orderly set ev one Quits s a kept = over a _ s kept
+run-orderly set ev one (Throws v) s a kept = over a _ s kept
 run-orderly set ev one (Ask e k) s a kept = ending-orderly (on_value-orderly a (open_in s) kept _ (λ v t. run-orderly set ev one (k v) t a)) (one e s)
+run-orderly set ev one (Catches e k) s a kept = ending-orderly (catching-orderly a (open_in s) kept _ (λ v t. run-orderly set ev one (k v) t a)) (one e s)
 run-orderly set ev one (Within ls e k) s a kept =
     ending-orderly {b = open_in s} (λ o t h. on_value-orderly a (open_in s) kept (λ v u. run set ev (k v) u) (λ v u. run-orderly set ev one (k v) u a) o (without_locals set.names s.definitions ls t) h) (one e _)
 run-orderly set ev one (Section locks e k) s a kept =
@@ -150,11 +173,18 @@ settled-orderly set a false n k next v s kept = changed-orderly set a n k next v
 judged-orderly : (set : Setting) (a : Bool) (n : ℕ) (k : Evaluator) → Carries a k → (e : Tree) → Carries a (judged set n k e)
 judged-orderly set a n k next e v s kept = unless_stopped-orderly a _ s _ kept (λ t. settled-orderly set a (same v e) n k next v t)
 
+passed-orderly : (set : Setting) (a : Bool) (n : ℕ) (k : Evaluator) → Carries a k → (e : Tree) (o : End) (s : State) → Still a o (open_in s) → Orderly a (open_in s) (passed set n k e o s)
+passed-orderly set a n k next e (Value v) s h = judged-orderly set a n k next e v s (λ e. subst (λ x. Still x (Value v) (open_in s)) e h)
+passed-orderly set a n k next e (Throwing v) s h = changed-orderly set a n _ (λ w t. over a _ t) v s (λ e. subst (λ x. Still x (Throwing v) (open_in s)) e h)
+passed-orderly set a n k next e (Thrown v) s h = ended refl h
+passed-orderly set a n k next e (Stopped c) s h = ended refl h
+passed-orderly set a n k next e Quit s h = ended refl h
+passed-orderly set a n k next e Closed s h = ended refl h
+passed-orderly set a n k next e Starved s h = ended refl h
+
 passes-orderly : (set : Setting) (ev : Evaluator) → InOrder ev → (a : Bool) (n : ℕ) → Carries a (passes set ev n)
-passes-orderly set ev one a zero e s kept =
-    ending-orderly (on_value-orderly a a (λ h. h) _ (judged-orderly set a zero _ (λ v t. over a _ t) e)) (run-orderly set ev one (pass set.names e) s a kept)
-passes-orderly set ev one a (suc n) e s kept =
-    ending-orderly (on_value-orderly a a (λ h. h) _ (judged-orderly set a (suc n) _ (λ v t. passes-orderly set ev one a n v t) e)) (run-orderly set ev one (pass set.names e) s a kept)
+passes-orderly set ev one a zero e s kept = ending-orderly (passed-orderly set a zero _ (λ v t. over a _ t) e) (run-orderly set ev one (pass set.names e) s a kept)
+passes-orderly set ev one a (suc n) e s kept = ending-orderly (passed-orderly set a (suc n) _ (λ v t. passes-orderly set ev one a n v t) e) (run-orderly set ev one (pass set.names e) s a kept)
 
 pub eval_at-orderly : (set : Setting) (n : ℕ) → InOrder (eval_at set n)
 eval_at-orderly set zero e s = over (open_in s) _ s (λ h. h)

@@ -1,6 +1,7 @@
 -- The control forms as programs. `stay` is the program of an expression that has no equation.
 --     in_turn, conditional, which, connected      CompoundExpression, If, Which, And and Or
 --     while                 a loop; each evaluation of its test begins a turn
+--     throw, catch          Throw and Catch
 --     Values, iterator      the values of an iterator, and how its parts are evaluated
 --     over, iterated        the body for each value, and the forms Do, Table and Sum
 --     applied               f[args], evaluated one deeper, as a turn
@@ -12,7 +13,7 @@ use Rattle.expr_tree.specs.Tree.{Tree, integer, symbol, normal, elements, call}
 use Rattle.expr_tree.specs.Order.{same}
 use Rattle.semantics.specs.declared.builtin.Builtin.{Builtin}
 use Rattle.semantics.specs.Names.{Names, name, is_name, is_call, items_of, make}
-use Rattle.semantics.specs.Program.{Prog, Done, Stops, Ask, Within, Look, Turn, Check, Moded, Local}
+use Rattle.semantics.specs.Program.{Prog, Done, Stops, Throws, Ask, Catches, Within, Look, Turn, Check, Moded, Local}
 use Rattle.expr_tree.specs.declared.limits.Stop.{Stop}
 
 -- a loop takes no more turns than the greatest number of steps that any limits allow; each turn is a step
@@ -77,6 +78,14 @@ while_true names (suc n) c e =
 abbrev pub while : Names → Prog → List Tree → Prog
 while names stay (c ∷ e ∷ []) = while_true names most_turns c e
 while names stay _ = stay
+
+abbrev pub throw : Prog → List Tree → Prog
+throw stay (e ∷ []) = Throws e
+throw stay _ = stay
+
+abbrev pub catch : Prog → List Tree → Prog
+catch stay (e ∷ []) = Catches e Done
+catch stay _ = stay
 
 -- the values of an iterator: numbers from a start by a step, so many; or the elements of a List
 pub data Values : Type 0 where

@@ -5,7 +5,7 @@ use Rattle.std.specs.Prelude.{◌≡◌, Bool, true, false, T, not, is_some}
 use Rattle.expr_tree.specs.Tree.{Tree}
 use Rattle.semantics.specs.Definitions.{Definitions}
 use Rattle.semantics.specs.Program.{Call, Sends, Enter, Leave}
-use Rattle.semantics.specs.Play.{Setting, State, End, Value, Stopped, Reply, Replied, Halted, Shut, Lacking, Play, Over, Calls, whole}
+use Rattle.semantics.specs.Play.{Setting, State, End, Value, Stopped, Throwing, Thrown, Reply, Replied, Halted, Shut, Lacking, Play, Over, Calls, whole}
 
 -- Enter that is replied to opens a section, Leave that is replied to closes it, and nothing else does
 abbrev pub opens : Call → Reply → Bool → Bool
@@ -25,11 +25,13 @@ may_call (Sends c) now = true
 may_call (Enter locks) now = not now
 may_call Leave now = now
 
--- what began inside a section and ends with a value or a stop is inside it still
+-- what began inside a section and ends with a value, a stop or a throw is inside it still
 abbrev pub Still : Bool → End → Bool → Type 0
 Still false o now = Unit {0}
 Still true (Value v) now = now ≡ true
 Still true (Stopped c) now = now ≡ true
+Still true (Throwing v) now = now ≡ true
+Still true (Thrown v) now = now ≡ true
 Still true _ now = Unit {0}
 
 -- of what began inside a section or not, and is at a point where one is open or not

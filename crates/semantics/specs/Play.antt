@@ -2,6 +2,7 @@
 --     State, End            what changes while it runs; how it ends
 --     Play                  an end, or a call that is needed and how it goes on
 --     run                   the meaning of a program, given what the evaluation of an expression one deeper means
+--     passed                the end of a pass, which gives a result or throws
 --     passes, eval_at       passes to a fixed point; an evaluation with so many nested evaluations left
 use Rattle.std.specs.Prelude.{ℕ, zero, suc, ◌+◌, List, [], ◌∷◌, Bool, true, false, ltb, ◌==◌, ◌&&◌, Option, Some, None}
 use Rattle.expr_tree.specs.declared.sym.Sym.{Sym}
@@ -13,7 +14,7 @@ use Rattle.expr_tree.specs.Substitution.{among}
 use Rattle.semantics.specs.Definitions.{Definition, Definitions, definition_of, stored, shared_as, put}
 use Rattle.expr_tree.specs.declared.limits.Limits.{Limits}
 use Rattle.expr_tree.specs.declared.limits.Stop.{Stop}
-use Rattle.semantics.specs.Program.{Prog, Done, Stops, Quits, Ask, Within, Section, Open, Look, Put, Fresh, Turn, Check, Outer, Moded, Shown, Mode, Call, Sends, Enter, Leave, Local, Seen}
+use Rattle.semantics.specs.Program.{Prog, Done, Stops, Quits, Throws, Ask, Catches, Within, Section, Open, Look, Put, Fresh, Turn, Check, Outer, Moded, Shown, Mode, Call, Sends, Enter, Leave, Local, Seen}
 use Rattle.semantics.specs.Pass.{pass}
 
 pub record State : Type 0 where
@@ -22,10 +23,13 @@ pub record State : Type 0 where
   pub used : Bool
   pub open_section : Option (List Sym)
 
--- with a value, a stop, Quit, a call that was answered by Closed, or one that found no memory
+-- with a value, a stop, a throw that nothing caught, Quit, a call that was answered by Closed, or one that found no memory
 pub data End : Type 0 where
   Value : Tree → End
   Stopped : Stop → End
+  -- a pass that throws ends with `Throwing`, which its evaluation judges as a change of the expression before it ends with `Thrown`
+  Throwing : Tree → End
+  Thrown : Tree → End
   Quit : End
   Closed : End
   Starved : End
@@ -58,6 +62,12 @@ on_value k o s = Over o s
 
 abbrev pub after : Play → (Tree → State → Play) → Play
 after p k = ending p (on_value k)
+
+-- goes on with a value or with what was thrown; any other end is the end
+abbrev pub catching : (Tree → State → Play) → End → State → Play
+catching k (Value v) s = k v s
+catching k (Thrown v) s = k v s
+catching k o s = Over o s
 
 -- ---- the limits
 
@@ -127,10 +137,11 @@ calling c s k = Calls c s (λ r d. by_reply r (with_definitions d s) k)
 abbrev pub opened : Option (List Sym) → State → State
 opened locks s = record s { open_section = locks }
 
--- a stop inside a section makes the call Leave before the evaluation ends; Quit and the rest make no further call
+-- a stop or a throw inside a section makes the call Leave before it passes outwards; Quit and the rest make no further call
 abbrev pub leaving : (Tree → State → Play) → End → State → Play
 leaving k (Value v) s = calling Leave s (λ _ t. k v (opened None t))
 leaving k (Stopped cause) s = calling Leave s (λ _ t. Over (Stopped cause) (opened None t))
+leaving k (Thrown v) s = calling Leave s (λ _ t. Over (Thrown v) (opened None t))
 leaving k o s = Over o s
 
 abbrev pub all_among : List Sym → List Sym → Bool
@@ -191,7 +202,9 @@ abbrev pub run : Setting → Evaluator → Prog → State → Play
 run set ev (Done e) s = Over (Value e) s
 run set ev (Stops cause) s = Over (Stopped cause) s
 run set ev Quits s = Over Quit s
+run set ev (Throws v) s = Over (Throwing v) s
 run set ev (Ask e k) s = after (ev e s) (λ v t. run set ev (k v) t)
+run set ev (Catches e k) s = ending (ev e s) (catching (λ v t. run set ev (k v) t))
 run set ev (Within ls e k) s = ending (ev e (with_locals set.names ls s)) (leaving_locals set.names s.definitions ls (λ v t. run set ev (k v) t))
 run set ev (Section locks e k) s =
     sectioned s.open_section locks s
@@ -224,10 +237,16 @@ settled false set left again v s = changed set left again v s
 abbrev pub judged : Setting → ℕ → Evaluator → Tree → Evaluator
 judged set left again e v s = unless_stopped (too_large set.limits v) s (λ t. settled (same v e) set left again v t)
 
+-- the end of a pass on e: a throw of its own counts as a result that changes e; what was thrown inside it was counted there
+abbrev pub passed : Setting → ℕ → Evaluator → Tree → End → State → Play
+passed set left again e (Value v) s = judged set left again e v s
+passed set left again e (Throwing v) s = changed set left (λ w t. Over (Thrown w) t) v s
+passed set left again e o s = Over o s
+
 -- passes until one changes nothing, with so many changing passes left
 abbrev pub passes : Setting → Evaluator → ℕ → Evaluator
-passes set ev zero e s = after (run set ev (pass set.names e) s) (judged set zero (λ v t. Over (Stopped Stop.Iteration) t) e)
-passes set ev (suc left) e s = after (run set ev (pass set.names e) s) (judged set (suc left) (λ v t. passes set ev left v t) e)
+passes set ev zero e s = ending (run set ev (pass set.names e) s) (passed set zero (λ v t. Over (Stopped Stop.Iteration) t) e)
+passes set ev (suc left) e s = ending (run set ev (pass set.names e) s) (passed set (suc left) (λ v t. passes set ev left v t) e)
 
 -- with so many nested evaluations left
 abbrev pub eval_at : Setting → ℕ → Evaluator

@@ -41,8 +41,12 @@ pub data Prog : Type 0 where
   Done : Tree → Prog
   Stops : Stop → Prog
   Quits : Prog
+  -- the pass throws a value
+  Throws : Tree → Prog
   -- evaluate an expression one deeper, and go on with its value
   Ask : Tree → (Tree → Prog) → Prog
+  -- the same, and what it throws is its value
+  Catches : Tree → (Tree → Prog) → Prog
   -- the same with locals put by, and put back however it ends
   Within : List Local → Tree → (Tree → Prog) → Prog
   -- the same inside a section with these locks, which is left however it ends; inside another section without a call, where that holds

@@ -8,7 +8,7 @@ use Rattle.semantics.specs.Names.{Names, is_name, is_call, make, truth}
 use Rattle.semantics.specs.Worked.{Worked, Stays, Gives, TooWide}
 use Rattle.semantics.specs.Numbers.{plus, product, power, quotient, modulo, parity, minus, subtract, divide, absolute, sign, gcd, factorial, extreme}
 use Rattle.semantics.specs.Tests.{all_same, some_same, equal, unequal, compared, negated, asked_of_one, is_atom, is_int, is_str}
-use Rattle.semantics.specs.Control.{null, in_turn, conditional, which, connected, while, iterated, nest, nest_list, fixed_point, fold, fold_list, select}
+use Rattle.semantics.specs.Control.{null, in_turn, conditional, which, connected, while, throw, catch, iterated, nest, nest_list, fixed_point, fold, fold_list, select}
 use Rattle.semantics.specs.Scoping.{with_locals, module_form, block_form, with_form, differ, bases_differ}
 use Rattle.semantics.specs.Changes.{set, set_delayed, tag_set, tag_set_delayed, unset, step_by, change_with, subtract_from, old_value, new_value, clear, clear_all, change_attributes, with_attributes, without_attributes, protect, attributes_row}
 use Rattle.semantics.specs.Replace.{replace_all, replace_repeated, match_q, member_q, cases, count_row, free_q}
@@ -104,6 +104,8 @@ row names Builtin.While stay = while names stay
 row names Builtin.Do stay = iterated names Builtin.Do (λ vs. null names) stay
 row names Builtin.Table stay = iterated names Builtin.Table (λ vs. Done (make names Builtin.List vs)) stay
 row names Builtin.Sum stay = iterated names Builtin.Sum (λ vs. Done (make names Builtin.Plus vs)) stay
+row names Builtin.Throw stay = throw stay
+row names Builtin.Catch stay = catch stay
 row names Builtin.Nest stay = nest stay
 row names Builtin.NestList stay = nest_list names stay
 row names Builtin.FoldList stay = fold_list names stay

@@ -42,6 +42,8 @@ pub enum Builtin {
     Do,
     Table,
     Sum,
+    Throw,
+    Catch,
     Hold,
     HoldComplete,
     HoldPattern,

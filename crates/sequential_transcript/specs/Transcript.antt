@@ -10,13 +10,13 @@ use Rattle.std.specs.Prelude.{ℕ, ◌+◌, leb, true, false, List, [], ◌∷�
 use Rattle.expr_tree.specs.Tree.{Tree, depth}
 use Rattle.expr_tree.specs.declared.limits.Limits.{Limits}
 use Rattle.script_text.specs.Spelling.{Spelling, bases, by_texts, place_in}
-use Rattle.semantics.specs.declared.builtin.Builtin.{Builtin}
 use Rattle.semantics.specs.Builtin.{rows}
-use Rattle.semantics.specs.Names.{Names, name}
+use Rattle.semantics.specs.Names.{Names}
 use Rattle.semantics.specs.Texts.{row_text, names_of}
 use Rattle.semantics.specs.Definitions.{Definitions, empty}
 use Rattle.semantics.specs.Program.{Cell}
-use Rattle.semantics.specs.Play.{Setting, Value, Stopped}
+use Rattle.semantics.specs.Play.{Setting}
+use Rattle.semantics.specs.Ends.{aborted, shown_end}
 use Rattle.semantics.specs.Eval.{Outcome, Ended, Evaluation, eval}
 use Rattle.syntax.specs.Tokens.{lex, names_in}
 use Rattle.syntax.specs.Leaves.{Lexeme, lexemes}
@@ -45,15 +45,14 @@ leaves v d = record { value = v; definitions = d }
 abbrev pub unbuilt_line : ℕ → List ℕ
 unbuilt_line n = numbered_line (codes "Unbuilt") n []
 
--- a stop shows as $Aborted; what needs a call is not built
-abbrev pub value_in : Names → Outcome → Option Tree
-value_in names (Ended (Value v)) = Some v
-value_in names (Ended (Stopped cause)) = Some (name names Builtin.Aborted)
-value_in names _ = None
+-- what needs a call is not built
+abbrev pub value_in : Names → Limits → Outcome → Option Tree
+value_in names limits (Ended end) = Some (shown_end names limits end)
+value_in names limits _ = None
 
--- the definitions that were made before a stop, or before a call, stay
-abbrev pub left_by : Names → Evaluation → Ran
-left_by names v = leaves (value_in names v.outcome) v.definitions
+-- the definitions that were made before a stop, a throw or a call stay
+abbrev pub left_by : Names → Limits → Evaluation → Ran
+left_by names limits v = leaves (value_in names limits v.outcome) v.definitions
 
 module _ (spelling : Spelling) (names : Names) (find : List ℕ → ℕ) (steps : ℕ) where
   -- by the lexemes of the cell and what they are read as; no call is answered
@@ -61,8 +60,8 @@ module _ (spelling : Spelling) (names : Names) (find : List ℕ → ℕ) (steps 
   ran d [] e = leaves (Some e) d
   ran d (l ∷ ls) e =
       elim (leb (depth e) 512) [
-        | false ↦ leaves (Some (name names Builtin.Aborted)) d
-        | true ↦ elim (has_unbuilt names e) [ true ↦ leaves None d | false ↦ left_by names (eval (alone spelling names steps) d e []) ]
+        | false ↦ leaves (Some (aborted names)) d
+        | true ↦ elim (has_unbuilt names e) [ true ↦ leaves None d | false ↦ left_by names (limits_of steps) (eval (alone spelling names steps) d e []) ]
       ]
 
   abbrev pub line_of : ℕ → Option Tree → List ℕ

@@ -1,5 +1,5 @@
 -- Which expressions have a name whose row is not built.
---     is_unbuilt           the rows that are not built: those that need other kernels, shared symbols or an outside
+--     is_unbuilt           the rows that are not built: those that need other kernels, shared symbols or an outside, and Throw and Catch
 --     has_unbuilt          whether the name of one stands in an expression
 use Rattle.std.specs.Prelude.{Bool, true, false, ◌||◌, Some, None}
 use Rattle.expr_tree.specs.Tree.{Tree, Trees, integer, string, symbol, normal, nil, cons}
@@ -8,6 +8,8 @@ use Rattle.semantics.specs.declared.builtin.Builtin.{Builtin}
 use Rattle.semantics.specs.Names.{Names, role_of}
 
 abbrev pub is_unbuilt : Builtin → Bool
+is_unbuilt Builtin.Throw = true
+is_unbuilt Builtin.Catch = true
 is_unbuilt Builtin.ParallelSubmit = true
 is_unbuilt Builtin.ParallelTable = true
 is_unbuilt Builtin.ParallelDo = true

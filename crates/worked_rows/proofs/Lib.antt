@@ -6,6 +6,7 @@ mod Assignments
 mod Scopes
 mod Lists
 mod Turns
+mod Throws
 mod LimitRows
 mod Sharing
 mod ByName
