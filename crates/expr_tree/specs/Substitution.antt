@@ -2,11 +2,11 @@
 --     Binders               the symbols that the rule looks for, a record of the program
 --     Binding               a list of pairs of a symbol and a run
 --     value_of              the run that a binding has for a symbol
---     bound_in              the symbols that an expression with this head and these items binds: Module, With and Function do
+--     bound_in              the symbols that an expression with this head and these items binds: Module, With and Function do, where their shape is right
 --     without               a binding without these symbols
 --     as_one                a run as one expression: a run of one stands for its element, another run for Sequence of it
 --     put_in_place          an expression with the runs of a binding put in
-use Rattle.std.specs.Prelude.{List, [], ◌∷◌, ◌++◌, Bool, false, ◌||◌, Option, Some, None, if◌then◌else◌}
+use Rattle.std.specs.Prelude.{List, [], ◌∷◌, Bool, false, ◌||◌, Option, Some, None, unwrap_or, if◌then◌else◌}
 use Rattle.expr_tree.specs.declared.sym.Sym.{Sym}
 use Rattle.expr_tree.specs.declared.binders.Binders.{Binders}
 use Rattle.expr_tree.specs.Same.{symbol_eq}
@@ -29,27 +29,43 @@ abbrev pub symbol_in : Tree → List Sym
 symbol_in (symbol s) = s ∷ []
 symbol_in _ = []
 
--- the symbol that a member of a list of locals binds: a symbol, or `symbol = value`
-abbrev pub bound_symbol : Binders → Tree → List Sym
-bound_symbol binders e = elim (pair_under binders.set e) [ None ↦ symbol_in e | Some pair ↦ symbol_in pair.0 ]
+abbrev pub plain_symbol : Tree → Option Sym
+plain_symbol (symbol s) = Some s
+plain_symbol _ = None
 
-abbrev pub bound_symbols : Binders → List Tree → List Sym
-bound_symbols binders [] = []
-bound_symbols binders (e ∷ es) = bound_symbol binders e ++ bound_symbols binders es
+-- the symbol of `symbol = value`
+abbrev pub valued_symbol : Binders → Tree → Option Sym
+valued_symbol binders e = elim (pair_under binders.set e) [ None ↦ None | Some pair ↦ plain_symbol pair.0 ]
 
--- Module and With bind the members of the list that is their first item
-abbrev pub bound_locals : Binders → List Tree → List Sym
-bound_locals binders [] = []
-bound_locals binders (x ∷ xs) = elim (elements_under binders.list x) [ None ↦ [] | Some es ↦ bound_symbols binders es ]
+-- the symbol of a local: a symbol, or `symbol = value`
+abbrev pub local_symbol : Binders → Tree → Option Sym
+local_symbol binders e = elim (pair_under binders.set e) [ None ↦ plain_symbol e | Some pair ↦ plain_symbol pair.0 ]
 
--- Function binds names where it has a second item; its first may be one name
+-- the symbols of the members of a list, where each of them has one
+abbrev pub symbols_by : (Tree → Option Sym) → List Tree → Option (List Sym)
+symbols_by member [] = Some []
+symbols_by member (e ∷ es) =
+    elim (member e) [ None ↦ None | Some s ↦ elim (symbols_by member es) [ None ↦ None | Some ss ↦ Some (s ∷ ss) ] ]
+
+-- a list in which some member has no symbol binds nothing
+abbrev pub bound_by : (Tree → Option Sym) → List Tree → List Sym
+bound_by member es = unwrap_or (symbols_by member es) []
+
+-- Module and With of two items bind the members of the List that is the first of them
+abbrev pub bound_locals : Binders → (Tree → Option Sym) → List Tree → List Sym
+bound_locals binders member (x ∷ y ∷ []) = elim (elements_under binders.list x) [ None ↦ [] | Some es ↦ bound_by member es ]
+bound_locals binders member _ = []
+
+-- Function of two items binds the first of them, or the members of the List that it is
 abbrev pub bound_parameters : Binders → List Tree → List Sym
-bound_parameters binders (x ∷ y ∷ ys) = elim (elements_under binders.list x) [ None ↦ symbol_in x | Some es ↦ bound_symbols binders es ]
+bound_parameters binders (x ∷ y ∷ []) = elim (elements_under binders.list x) [ None ↦ symbol_in x | Some es ↦ bound_by plain_symbol es ]
 bound_parameters binders _ = []
 
+-- the members of a Module are locals, those of a With have a value, those of a Function are symbols
 abbrev pub bound_under : Binders → Sym → List Tree → List Sym
 bound_under binders s es =
-    if symbol_eq s binders.module || symbol_eq s binders.with then bound_locals binders es
+    if symbol_eq s binders.module then bound_locals binders (local_symbol binders) es
+    else if symbol_eq s binders.with then bound_locals binders (valued_symbol binders) es
     else if symbol_eq s binders.function then bound_parameters binders es
     else []
 

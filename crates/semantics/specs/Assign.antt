@@ -58,6 +58,10 @@ abbrev pub item_symbols : List Tree → List Sym → List Sym
 item_symbols [] ss = ss
 item_symbols (e ∷ es) ss = item_symbols es (add_symbol (symbol_of e) ss)
 
+-- the symbols to which a rule with this left side may be attached: that of its head, and those of its items
+abbrev pub symbols_at : Tree → List Sym
+symbols_at left = item_symbols (items_of left) (add_symbol (symbol_of left) [])
+
 abbrev pub all_at : Place → List Sym → List Target
 all_at place [] = []
 all_at place (s ∷ ss) = record { symbol = s; place = place } ∷ all_at place ss
@@ -113,7 +117,7 @@ has_no_symbol names form left =
       | false ↦ elim form [
         | ToHead ↦ elim (places names ToHead left) [ [] ↦ true | _ ↦ false ]
         | ToItems ↦ elim (places names ToItems left) [ [] ↦ true | _ ↦ false ]
-        | ToTag t ↦ elim (symbol_of (inner names left)) [ None ↦ true | Some s ↦ false ]
+        | ToTag t ↦ elim (symbols_at (inner names left)) [ [] ↦ true | _ ↦ false ]
       ]
     ]
 

@@ -11,12 +11,11 @@ use Rattle.expr_tree.specs.Tree.{Tree, integer, symbol}
 use Rattle.expr_tree.specs.Order.{same_symbol}
 use Rattle.semantics.specs.declared.builtin.Builtin.{Builtin}
 use Rattle.semantics.specs.Names.{Names, name, is_call, items_of, make, role_of}
-use Rattle.expr_tree.specs.Shapes.{symbol_of}
 use Rattle.semantics.specs.Steps.{ordered}
 use Rattle.semantics.specs.Rule.{remove, has_left}
 use Rattle.semantics.specs.Definitions.{Definition, Attributes, has}
 use Rattle.semantics.specs.Program.{Prog, Done, Ask, Look, Put, Check, Moded, Item, Seen}
-use Rattle.semantics.specs.Assign.{Form, ToTag, Target, places, refusal, asked_symbols, attached, inner, item_symbols, add_symbol}
+use Rattle.semantics.specs.Assign.{Form, ToTag, Target, places, refusal, asked_symbols, attached, inner, symbols_at}
 use Rattle.semantics.specs.Assemble.{left_side}
 use Rattle.semantics.specs.Control.{failed, null}
 
@@ -83,7 +82,7 @@ tag_set_delayed names stay _ = stay
 
 -- the symbols that may hold something with this left side
 abbrev pub holders : Names → Tree → List Sym
-holders names left = item_symbols (items_of (inner names left)) (add_symbol (symbol_of (inner names left)) [])
+holders names left = symbols_at (inner names left)
 
 abbrev pub holds : Tree → Definition → Bool
 holds (symbol s) d = is_some d.own
@@ -115,14 +114,15 @@ unset names stay (left ∷ []) =
 unset names stay _ = stay
 
 -- an expression made of the old value of a symbol is evaluated and becomes its new value
+-- the new value is assigned, where the symbol is not Protected when it is known
+abbrev pub renew : Names → Sym → Tree → Tree → Definition → Prog
+renew names s new given d = elim (is_protected d) [ true ↦ failed names | false ↦ Put s (record d { own = Some new }) (Done given) ]
+
 abbrev pub change_own : Names → Sym → (Tree → Tree) → (Tree → Tree → Tree) → Definition → Prog
 change_own names s next gives d =
-    elim (is_protected d) [
-      | true ↦ failed names
-      | false ↦ elim d.own [
-        | None ↦ failed names
-        | Some old ↦ Check (next old) (Ask (next old) (λ v. Look s (λ seen. Put s (record (seen.definition) { own = Some v }) (Done (gives old v)))))
-      ]
+    elim d.own [
+      | None ↦ failed names
+      | Some old ↦ Check (next old) (Ask (next old) (λ v. Look s (λ seen. renew names s v (gives old v) seen.definition)))
     ]
 
 abbrev pub change : Names → Sym → (Tree → Tree) → (Tree → Tree → Tree) → Prog

@@ -47,11 +47,9 @@ filled names args e n =
       | false ↦ elim (ltb n (length args)) [ true ↦ as_one names (drop n args) | false ↦ e ]
     ]
 
-abbrev pub slot_value : Names → List Tree → Tree → Tree
-slot_value names args e = elim (slot_number (items_of e)) [ None ↦ e | Some n ↦ filled names args e n ]
-
-abbrev pub is_slot : Names → Tree → Bool
-is_slot names e = is_call names Builtin.Slot e || is_call names Builtin.SlotSequence e
+-- the number of a slot, Slot[n] or SlotSequence[n]; another shape is no slot
+abbrev pub slot_of : Names → Tree → Option ℕ
+slot_of names e = elim (is_call names Builtin.Slot e || is_call names Builtin.SlotSequence e) [ true ↦ slot_number (items_of e) | false ↦ None ]
 
 -- slots are not put into an inner Function of one argument
 abbrev pub is_pure_function : Names → Tree → Trees → Bool
@@ -64,9 +62,9 @@ abbrev mutual
   fill_slots names args (string t) = string t
   fill_slots names args (symbol s) = symbol s
   fill_slots names args (normal h es) =
-      elim (is_slot names (normal h es)) [
-        | true ↦ slot_value names args (normal h es)
-        | false ↦ elim (is_pure_function names h es) [
+      elim (slot_of names (normal h es)) [
+        | Some n ↦ filled names args (normal h es) n
+        | None ↦ elim (is_pure_function names h es) [
           | true ↦ normal h es
           | false ↦ normal (fill_slots names args h) (fill_in_items names args es)
         ]

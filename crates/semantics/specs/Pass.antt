@@ -8,7 +8,7 @@
 --     up_rules, down_rules  the rules that are tried; built_in is the row
 --     left_standing         what stands where nothing gives a result
 --     symbol_pass           a symbol
-use Rattle.std.specs.Prelude.{pos, List, [], ◌∷◌, true, false, ◌&&◌, not, Option, Some, None}
+use Rattle.std.specs.Prelude.{ℕ, pos, List, [], ◌∷◌, true, false, ◌&&◌, not, Option, Some, None}
 use Rattle.expr_tree.specs.declared.sym.Sym.{Sym}
 use Rattle.expr_tree.specs.Tree.{Tree, integer, string, symbol, normal, elements, call}
 use Rattle.semantics.specs.declared.builtin.Builtin.{Builtin}
@@ -16,7 +16,7 @@ use Rattle.semantics.specs.Names.{Names, is_known, is_name, make, role_of}
 use Rattle.expr_tree.specs.Shapes.{symbol_of}
 use Rattle.semantics.specs.Steps.{strip, has_wrapper}
 use Rattle.semantics.specs.Definitions.{Attributes, Share, Variable, Function, has}
-use Rattle.semantics.specs.Program.{Prog, Done, Look, Outer, Moded, Seen, Count}
+use Rattle.semantics.specs.Program.{Prog, Done, Look, Outer, Moded, Mode, Item, Seen, Count}
 use Rattle.semantics.specs.Attempt.{try_rules}
 use Rattle.semantics.specs.Assemble.{first_steps, flattened, threaded, sorted, check_all}
 use Rattle.semantics.specs.Scoping.{apply_function}
@@ -40,7 +40,7 @@ up_rules names (x ∷ xs) e otherwise = symbol_rules names (symbol_of x) e (up_r
 
 abbrev pub row_or_stay : Names → Option Builtin → Sym → List Tree → Tree → Prog → Prog
 row_or_stay names None s items e stay = stay
-row_or_stay names (Some r) s items e stay = unless_access names (symbol s) items e (row names r stay items)
+row_or_stay names (Some r) s items e stay = unless_access names (symbol s) items e stay (row names r stay items)
 
 abbrev pub built_in : Names → Sym → List Tree → Tree → Prog → Prog
 built_in names s items e stay = row_or_stay names (role_of names s) s items e stay
@@ -48,7 +48,7 @@ built_in names s items e stay = row_or_stay names (role_of names s) s items e st
 -- the down rules of the head, then its row; a shared function is an access
 abbrev pub down_rules : Names → Tree → List Tree → Tree → Prog → Prog
 down_rules names (symbol s) items e stay =
-    Look s (λ seen. access_or seen.shared Function e (marked seen.shared (try_rules names seen.definition.downs e Done (built_in names s items e stay))))
+    Look s (λ seen. access_or seen.shared Function e stay (marked seen.shared (try_rules names seen.definition.downs e Done (built_in names s items e stay))))
 down_rules names (normal h fs) items e stay = elim (is_name names Builtin.Function h) [ true ↦ apply_function names stay (elements fs) items | false ↦ stay ]
 down_rules names _ items e stay = stay
 
@@ -72,11 +72,16 @@ later_steps names head a items =
           last_steps names a last (call head last) (Done (left_standing names a head items (call head last))) head
     ]
 
+-- a kernel's number is its own in an item alone; cells and services belong to the master
+abbrev pub number_in : Mode → ℕ → ℕ
+number_in Item kernel = kernel
+number_in _ kernel = 0
+
 -- $KernelID and $KernelCount are rows of a symbol alone
 abbrev pub symbol_row : Names → Sym → Prog
 symbol_row names s =
     elim (is_known names Builtin.KernelID s) [
-      | true ↦ Moded (λ mode kernel. Done (integer (pos kernel)))
+      | true ↦ Moded (λ mode kernel. Done (integer (pos (number_in mode kernel))))
       | false ↦ elim (is_known names Builtin.KernelCount s) [
         | true ↦ Moded (λ mode kernel. Outer Count Done)
         | false ↦ Done (symbol s)
@@ -89,7 +94,7 @@ own_value names s seen = elim (seen.definition.own) [ None ↦ symbol_row names 
 
 -- in mode Item a shared variable is an access
 abbrev pub symbol_pass : Names → Sym → Prog
-symbol_pass names s = Look s (λ seen. access_or seen.shared Variable (symbol s) (marked seen.shared (own_value names s seen)))
+symbol_pass names s = Look s (λ seen. access_or seen.shared Variable (symbol s) (Done (symbol s)) (marked seen.shared (own_value names s seen)))
 
 abbrev pub pass : Names → Tree → Prog
 pass names (integer n) = Done (integer n)

@@ -10,7 +10,7 @@ use Rattle.semantics.specs.declared.builtin.Builtin.{Builtin}
 use Rattle.semantics.specs.Names.{Names, is_call, items_of, truth}
 use Rattle.semantics.specs.Rule.{Rule}
 use Rattle.semantics.specs.Attempt.{try_rules}
-use Rattle.semantics.specs.Program.{Prog, Done, Stops, Turn, Check}
+use Rattle.semantics.specs.Program.{Prog, Done, Stops, Ask, Turn, Check}
 use Rattle.expr_tree.specs.declared.limits.Stop.{Stop}
 
 abbrev pub rule_in : List Tree → Option Rule
@@ -46,10 +46,11 @@ abbrev pub replace_all : Names → Prog → List Tree → Prog
 replace_all names stay (e ∷ r ∷ []) = elim (rule_set names r) [ None ↦ stay | Some rs ↦ replaced names rs e Done ]
 replace_all names stay _ = stay
 
--- rounds until one changes nothing; each is a turn, and after 4096 that all change something it stops
+-- rounds until one changes nothing; each is a turn, and begins with the value of what the one before it made. After 4096 that all change something
+-- it stops
 abbrev pub rounds : Names → List Rule → ℕ → Tree → Prog
 rounds names rs zero e = Turn (replaced names rs e (λ f. Check f (elim (same f e) [ true ↦ Done f | false ↦ Stops Stop.Iteration ])))
-rounds names rs (suc n) e = Turn (replaced names rs e (λ f. Check f (elim (same f e) [ true ↦ Done f | false ↦ rounds names rs n f ])))
+rounds names rs (suc n) e = Turn (replaced names rs e (λ f. Check f (elim (same f e) [ true ↦ Done f | false ↦ Ask f (rounds names rs n) ])))
 
 abbrev pub replace_repeated : Names → Prog → List Tree → Prog
 replace_repeated names stay (e ∷ r ∷ []) = elim (rule_set names r) [ None ↦ stay | Some rs ↦ rounds names rs 4095 e ]

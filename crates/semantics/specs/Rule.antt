@@ -2,9 +2,9 @@
 --     Rule, Key, key_of          a left and a right side; its five counts
 --     condition_of, result_of    what stands in a right side r /; c
 --     insert, remove             a rule put into a list of rules; the rules with a left side taken out
-use Rattle.std.specs.Prelude.{ℕ, ◌+◌, ◌-◌, List, [], ◌∷◌, length, Bool, true, false, ◌&&◌, ◌||◌}
+use Rattle.std.specs.Prelude.{ℕ, ◌+◌, ◌-◌, ◌==◌, leb, List, [], ◌∷◌, length, Bool, true, false, ◌&&◌, ◌||◌}
 use Rattle.std.specs.declared.cmp.Ordering.TheVariants.{Greater}
-use Rattle.expr_tree.specs.Tree.{Tree, integer, string, symbol, normal, Trees, nil, cons}
+use Rattle.expr_tree.specs.Tree.{Tree, integer, string, symbol, normal, Trees, nil, cons, count}
 use Rattle.expr_tree.specs.Order.{same, text_cmp}
 use Rattle.semantics.specs.declared.builtin.Builtin.{Builtin}
 use Rattle.semantics.specs.Names.{Names, is_name, is_call, items_of}
@@ -40,22 +40,27 @@ abbrev mutual
   occurrences_in test nil = 0
   occurrences_in test (cons e es) = occurrences test e + occurrences_in test es
 
+-- a construct of patterns in another shape is an ordinary expression, and does not count
 abbrev pub is_untyped : Names → Tree → Trees → Bool
-is_untyped names h nil = is_name names Builtin.Blank h
-is_untyped names h (cons e es) = false
+is_untyped names h es = is_name names Builtin.Blank h && (count es == 0)
 
 abbrev pub is_typed : Names → Tree → Trees → Bool
-is_typed names h nil = false
-is_typed names h (cons e es) = is_name names Builtin.Blank h
+is_typed names h es = is_name names Builtin.Blank h && (count es == 1)
+
+abbrev pub is_run : Names → Builtin → Tree → Trees → Bool
+is_run names row h es = is_name names row h && leb (count es) 1
+
+abbrev pub is_guarded : Names → Tree → Trees → Bool
+is_guarded names h es = (is_name names Builtin.Condition h || is_name names Builtin.PatternTest h) && (count es == 2)
 
 -- (number of ___, of __, of untyped _, of typed _, 1000 less the number of conditions and tests)
 abbrev pub key_of : Names → Rule → List ℕ
 key_of names rule =
-    occurrences (λ h es. is_name names Builtin.BlankNullSequence h) rule.left
-    ∷ occurrences (λ h es. is_name names Builtin.BlankSequence h) rule.left
+    occurrences (is_run names Builtin.BlankNullSequence) rule.left
+    ∷ occurrences (is_run names Builtin.BlankSequence) rule.left
     ∷ occurrences (is_untyped names) rule.left
     ∷ occurrences (is_typed names) rule.left
-    ∷ (1000 - (occurrences (λ h es. is_name names Builtin.Condition h || is_name names Builtin.PatternTest h) rule.left + length (condition_of names rule.right)))
+    ∷ (1000 - (occurrences (is_guarded names) rule.left + length (condition_of names rule.right)))
     ∷ []
 
 abbrev pub same_condition : List Tree → List Tree → Bool

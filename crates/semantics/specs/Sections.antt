@@ -9,10 +9,11 @@
 use Rattle.std.specs.Prelude.{ℕ, List, [], ◌∷◌, ◌++◌, length, leb, Bool, true, false, ◌&&◌, ◌||◌, not, Option, Some, None, is_some}
 use Rattle.expr_tree.specs.declared.sym.Sym.{Sym}
 use Rattle.expr_tree.specs.Tree.{Tree, integer, string, symbol, normal, Trees, nil, cons, call}
+use Rattle.expr_tree.specs.Order.{same}
 use Rattle.semantics.specs.declared.builtin.Builtin.{Builtin}
 use Rattle.semantics.specs.Names.{Names, is_name, is_call, items_of, make}
 use Rattle.semantics.specs.Definitions.{Share, Variable, Function, has}
-use Rattle.semantics.specs.Program.{Prog, Done, Ask, Section, Open, Look, Quits, Outer, Moded, Shown, Cell, Item, Service, Access, Print, Outside}
+use Rattle.semantics.specs.Program.{Prog, Done, Ask, Check, Section, Open, Look, Quits, Outer, Moded, Shown, Cell, Item, Service, Access, Print, Outside}
 use Rattle.semantics.specs.Control.{failed, null, applied, iterator}
 use Rattle.semantics.specs.Scoping.{symbols_in}
 
@@ -57,8 +58,10 @@ without_option names [] = []
 without_option names (e ∷ []) = elim (is_option names e) [ true ↦ [] | false ↦ e ∷ [] ]
 without_option names (e ∷ f ∷ es) = e ∷ without_option names (f ∷ es)
 
-abbrev pub is_item : Names → Tree → Bool
-is_item names e = not (is_option names e)
+-- an option is one only where it stands last
+abbrev pub is_last_option : Names → Tree → List Tree → Bool
+is_last_option names e [] = is_option names e
+is_last_option names e (f ∷ es) = false
 
 -- ParallelMap[f, l], with or without an option; elsewhere Map. With an option and no list it stays
 abbrev pub parallel_map : Names → Prog → List Tree → Prog
@@ -84,7 +87,7 @@ combined names f l rest = Done (make names Builtin.Join (call f (l ∷ []) ∷ [
 
 abbrev pub parallel_combine : Names → Prog → List Tree → Prog
 parallel_combine names stay (f ∷ normal h es ∷ rest) =
-    elim (leb (length (without_option names rest)) 1 && not (is_option names (normal h es))) [
+    elim (leb (length (without_option names rest)) 1 && not (is_last_option names (normal h es) rest)) [
       | true ↦ outside_or (outer names Builtin.ParallelCombine (f ∷ normal h es ∷ rest)) (combined names f (normal h es) (without_option names rest))
       | false ↦ stay
     ]
@@ -111,14 +114,18 @@ ask_option names (normal h (cons m (cons v nil)) ∷ []) k =
 ask_option names (e ∷ []) k = k (e ∷ [])
 ask_option names (e ∷ f ∷ es) k = ask_option names (f ∷ es) (λ gs. k (e ∷ gs))
 
+-- a form that is put together anew counts as a result before it is sent
+abbrev pub checked_outer : Names → Builtin → List Tree → Prog
+checked_outer names form es = Check (make names form es) (outer names form es)
+
 -- ParallelTable, ParallelDo and ParallelSum: in a cell one call, with the parts of the first iterator and the right side of the option as evaluated;
 -- elsewhere Table, Do and Sum
 abbrev pub parallel_loop : Names → Builtin → Builtin → Prog → List Tree → Prog
 parallel_loop names form sequential stay (e ∷ it ∷ es) =
-    elim (is_option names it) [
+    elim (is_last_option names it es) [
       | true ↦ stay
       | false ↦ outside_or
-          (iterator names it (λ i values parts. ask_option names es (λ fs. outer names form (e ∷ make names Builtin.List parts ∷ fs))) stay)
+          (iterator names it (λ i values parts. ask_option names es (λ fs. checked_outer names form (e ∷ make names Builtin.List parts ∷ fs))) stay)
           (Done (make names sequential (without_option names (e ∷ it ∷ es))))
     ]
 parallel_loop names form sequential stay _ = stay
@@ -144,8 +151,9 @@ abbrev mutual
   any_object names nil = false
   any_object names (cons e es) = has_object names e || any_object names es
 
+-- without an object the argument, in every mode
 abbrev pub wait_all : Names → Prog → List Tree → Prog
-wait_all names stay (e ∷ []) = outside_or (outer names Builtin.WaitAll (e ∷ [])) (elim (has_object names e) [ true ↦ failed names | false ↦ Done e ])
+wait_all names stay (e ∷ []) = elim (has_object names e) [ true ↦ outside_or (outer names Builtin.WaitAll (e ∷ [])) (failed names) | false ↦ Done e ]
 wait_all names stay _ = stay
 
 -- ParallelSubmit, DistributeDefinitions and sharing: one call in a cell, also inside a section, and elsewhere they fail
@@ -200,11 +208,16 @@ same_share Variable Variable = true
 same_share Function Function = true
 same_share _ _ = false
 
--- an access of a symbol that is seen to be shared so: in mode Item the event, else p
-abbrev pub access_or : Option Share → Share → Tree → Prog → Prog
-access_or None kind e p = p
-access_or (Some k) kind e p = elim (same_share k kind) [ true ↦ Moded (λ mode kernel. elim mode [ Item ↦ Outer (Access e) Done | _ ↦ p ]) | false ↦ p ]
+-- a reply identical to what was sent is no result of the pass
+abbrev pub unless_identical : Tree → Prog → Tree → Prog
+unless_identical e stay v = elim (same v e) [ true ↦ stay | false ↦ Done v ]
 
-abbrev pub unless_access : Names → Tree → List Tree → Tree → Prog → Prog
-unless_access names h items e p =
-    elim (accessed names h items) [ None ↦ p | Some a ↦ Look a.0 (λ seen. access_or seen.shared a.1 e p) ]
+-- an access of a symbol that is seen to be shared so: in mode Item the event, else p
+abbrev pub access_or : Option Share → Share → Tree → Prog → Prog → Prog
+access_or None kind e stay p = p
+access_or (Some k) kind e stay p =
+    elim (same_share k kind) [ true ↦ Moded (λ mode kernel. elim mode [ Item ↦ Outer (Access e) (unless_identical e stay) | _ ↦ p ]) | false ↦ p ]
+
+abbrev pub unless_access : Names → Tree → List Tree → Tree → Prog → Prog → Prog
+unless_access names h items e stay p =
+    elim (accessed names h items) [ None ↦ p | Some a ↦ Look a.0 (λ seen. access_or seen.shared a.1 e stay p) ]

@@ -102,3 +102,35 @@ shared_legal = refl
 shared_lines : transcript (setup 1 []) false shared shared_journal 4 ≡ Some (Out 3 (int 9) ∷ Out 4 (list (int 7 ∷ int 7 ∷ int 7 ∷ [])) ∷ [])
 unfolding shared shared_journal row worked matches
 shared_lines = refl
+
+-- DistributeDefinitions[]; SetSharedVariable[]; SetSharedFunction[]: no symbols, no entry, and Null
+no_symbols : List Reading
+no_symbols = reads (of Builtin.DistributeDefinitions [] ∷ of Builtin.SetSharedVariable [] ∷ of Builtin.SetSharedFunction [] ∷ int 1 ∷ [])
+
+no_symbols_legal : legal (setup 0 []) no_symbols (by 0 Event.Close ∷ []) ≡ true
+unfolding no_symbols row worked
+no_symbols_legal = refl
+
+no_symbols_lines : transcript (setup 0 []) false no_symbols (by 0 Event.Close ∷ []) 4 ≡ Some (Out 4 (int 1) ∷ [])
+unfolding no_symbols row worked
+no_symbols_lines = refl
+
+-- SetSharedFunction[f]; WaitAll[ParallelSubmit[f[Unevaluated[x]]]]: one access, and what stood before the wrapper was taken off
+wrapped : List Reading
+wrapped =
+    reads (of Builtin.SetSharedFunction (f' ∷ []) ∷ wait_all (submit (call f' (of Builtin.Unevaluated (x' ∷ []) ∷ []))) ∷ [])
+
+wrapped_journal : List Entry
+wrapped_journal =
+    by 0 (Event.Submit 1) ∷ by 0 (Event.Yield (Wait.All (1 ∷ []))) ∷ by 0 (Event.Take 1)
+    ∷ by 0 (Event.Access (call f' (x' ∷ [])) (call f' (x' ∷ [])))
+    ∷ by 0 (Event.Deliver 1 (call f' (of Builtin.Unevaluated (x' ∷ []) ∷ [])))
+    ∷ by 0 Event.Resume ∷ by 0 Event.Close ∷ []
+
+wrapped_legal : legal (setup 0 []) wrapped wrapped_journal ≡ true
+unfolding wrapped wrapped_journal row worked
+wrapped_legal = refl
+
+wrapped_lines : transcript (setup 0 []) false wrapped wrapped_journal 2 ≡ Some (Out 2 (call f' (of Builtin.Unevaluated (x' ∷ []) ∷ [])) ∷ [])
+unfolding wrapped wrapped_journal row worked
+wrapped_lines = refl

@@ -1,10 +1,13 @@
 -- Definitions: their order, refusals and removal.
-use Rattle.std.proofs.Common.{◌≡◌, refl, [], ◌∷◌}
+use Rattle.std.proofs.Common.{◌≡◌, refl, false, List, [], ◌∷◌, Some}
+use Rattle.expr_tree.specs.Tree.{Tree, call}
+use Rattle.semantics.specs.Assign.{ToTag, NoSymbol, NoTag, refusal}
+use Rattle.semantics.specs.Rule.{key_of}
 use Rattle.semantics.specs.declared.builtin.Builtin.{Builtin}
 use Rattle.semantics.specs.Eval.{eval}
 use Rattle.semantics.specs.Table.{row, worked}
 use Rattle.semantics.specs.Match.{matches}
-use Rattle.worked_rows.specs.Sample.{a', apply, area', blank, cells, condition, delayed, equals, f', failed, g', h', int, l', list, m', n', null, numbers, of, p', plus, sq', symbol_of_row, value, x', y'}
+use Rattle.worked_rows.specs.Sample.{a', apply, area', blank, c', cells, condition, delayed, equals, f', failed, g', h', int, l', list, m', n', names, null, numbers, of, p', plus, sq', sym, symbol_of_row, t', value, x', y'}
 
 -- a[x_] := 1; a[0] = 2; a[0]; a[5]
 the_more_special_rule_comes_first :
@@ -246,3 +249,102 @@ a_tagged_assignment_evaluates_its_right_side :
     ∷ value (int 2) ∷ []
 unfolding eval row worked matches
 a_tagged_assignment_evaluates_its_right_side = refl
+
+numbers_of_two : List Tree
+numbers_of_two = int 1 ∷ int 2 ∷ []
+
+-- f[_Blank] := 1; f[Blank[1, 2]] := 2; f[Blank[1, 2]]; f[Blank[3]]
+another_shape_does_not_count :
+    cells (
+    delayed (apply f' (of Builtin.Blank (symbol_of_row Builtin.Blank ∷ []))) (int 1)
+    ∷ delayed (apply f' (of Builtin.Blank (numbers_of_two))) (int 2)
+    ∷ apply f' (of Builtin.Blank (numbers_of_two))
+    ∷ apply f' (of Builtin.Blank (int 3 ∷ [])) ∷ [])
+    ≡ null
+    ∷ null
+    ∷ value (int 2)
+    ∷ value (int 1) ∷ []
+unfolding numbers_of_two eval row worked matches
+another_shape_does_not_count = refl
+
+-- f[_, _h, __, __h, ___, ___h, _?g, _ /; c]; f[Blank[1, 2], BlankSequence[1, 2], BlankNullSequence[1, 2], PatternTest[1], Condition[], Condition[1, 2, 3]]
+keys_count_constructs_in_their_shape :
+    key_of names (record {
+      left =
+          call f' (
+          of Builtin.Blank [] ∷ of Builtin.Blank (h' ∷ []) ∷ of Builtin.BlankSequence [] ∷ of Builtin.BlankSequence (h' ∷ [])
+          ∷ of Builtin.BlankNullSequence [] ∷ of Builtin.BlankNullSequence (h' ∷ [])
+          ∷ of Builtin.PatternTest (of Builtin.Blank [] ∷ g' ∷ []) ∷ condition (of Builtin.Blank []) c' ∷ []);
+      right = a';
+    })
+    ≡ 2 ∷ 2 ∷ 3 ∷ 1 ∷ 998 ∷ []
+keys_count_constructs_in_their_shape = refl
+
+keys_count_no_other_shape :
+    key_of names (record {
+      left =
+          call f' (
+          of Builtin.Blank numbers_of_two ∷ of Builtin.BlankSequence numbers_of_two ∷ of Builtin.BlankNullSequence numbers_of_two
+          ∷ of Builtin.PatternTest (int 1 ∷ []) ∷ of Builtin.Condition [] ∷ of Builtin.Condition (int 1 ∷ int 2 ∷ int 3 ∷ []) ∷ []);
+      right = a';
+    })
+    ≡ 0 ∷ 0 ∷ 0 ∷ 0 ∷ 1000 ∷ []
+unfolding numbers_of_two
+keys_count_no_other_shape = refl
+
+-- n := (Protect[n]; 1); n++; n
+a_symbol_may_be_protected_meanwhile :
+    cells (
+    delayed n' (of Builtin.CompoundExpression (of Builtin.Protect (n' ∷ []) ∷ int 1 ∷ []))
+    ∷ of Builtin.Increment (n' ∷ [])
+    ∷ n' ∷ [])
+    ≡ null
+    ∷ failed
+    ∷ value (int 1) ∷ []
+unfolding eval row worked
+a_symbol_may_be_protected_meanwhile = refl
+
+-- n := (Unprotect[n]; 1); Protect[n]; ++n; n; Protect[m]; m++
+a_symbol_may_be_unprotected_meanwhile :
+    cells (
+    delayed n' (of Builtin.CompoundExpression (of Builtin.Unprotect (n' ∷ []) ∷ int 1 ∷ []))
+    ∷ of Builtin.Protect (n' ∷ [])
+    ∷ of Builtin.PreIncrement (n' ∷ [])
+    ∷ n'
+    ∷ of Builtin.Protect (m' ∷ [])
+    ∷ of Builtin.Increment (m' ∷ []) ∷ [])
+    ≡ null
+    ∷ null
+    ∷ value (int 2)
+    ∷ value (int 2)
+    ∷ null
+    ∷ failed ∷ []
+unfolding eval row worked
+a_symbol_may_be_unprotected_meanwhile = refl
+
+-- t /: 3[t] = 1; 3[t]; 3[x] ^= 2; 3[x]; t /: 3[x] = 1; t /: 3[4] = 1; t /: 3[a][t] = 1
+a_tag_needs_no_symbol_at_the_head :
+    cells (
+    of Builtin.TagSet (t' ∷ apply (int 3) t' ∷ int 1 ∷ [])
+    ∷ apply (int 3) t'
+    ∷ of Builtin.UpSet (apply (int 3) x' ∷ int 2 ∷ [])
+    ∷ apply (int 3) x'
+    ∷ of Builtin.TagSet (t' ∷ apply (int 3) x' ∷ int 1 ∷ [])
+    ∷ of Builtin.TagSet (t' ∷ apply (int 3) (int 4) ∷ int 1 ∷ [])
+    ∷ of Builtin.TagSet (t' ∷ apply (apply (int 3) a') t' ∷ int 1 ∷ []) ∷ [])
+    ≡ value (int 1)
+    ∷ value (int 1)
+    ∷ value (int 2)
+    ∷ value (int 2)
+    ∷ failed
+    ∷ failed
+    ∷ failed ∷ []
+unfolding eval row worked matches
+a_tag_needs_no_symbol_at_the_head = refl
+
+-- of 3[x] and 3[4] the first has a symbol, to which a tag t is none; the other has none
+why_a_tag_is_refused : refusal names (λ s. false) (ToTag (sym 19)) (apply (int 3) x') ≡ Some NoTag
+why_a_tag_is_refused = refl
+
+why_no_symbol_is_found : refusal names (λ s. false) (ToTag (sym 19)) (apply (int 3) (int 4)) ≡ Some NoSymbol
+why_no_symbol_is_found = refl

@@ -5,7 +5,7 @@ use Rattle.semantics.specs.declared.builtin.Builtin.{Builtin}
 use Rattle.semantics.specs.Eval.{eval}
 use Rattle.semantics.specs.Table.{row, worked}
 use Rattle.semantics.specs.Match.{matches}
-use Rattle.worked_rows.specs.Sample.{a', apply, b', blank, blanks, cells, condition, equals, f', g', h', int, list, n', null, numbers, o', of, plus, replacing, rule, some_blanks, symbol_of_row, value, x', y'}
+use Rattle.worked_rows.specs.Sample.{a', apply, b', blank, blanks, c', cells, condition, delayed, equals, f', g', h', int, list, n', null, numbers, o', of, plus, replacing, rule, some_blanks, symbol_of_row, value, w', x', y', z'}
 
 -- {1, 2, 3} /. {x__, y__} -> {{x}, {y}}
 a_sequence_takes_the_shortest_run_first :
@@ -171,3 +171,29 @@ delayed_rules_keep_their_right_side :
     ≡ value (numbers (2 ∷ 3 ∷ [])) ∷ []
 unfolding eval row worked matches
 delayed_rules_keep_their_right_side = refl
+
+-- {3, 1, 2} //. {x___, y_, z_, w___} /; y > z -> {x, z, y, w}; {1, 2, 3} //. {x_, y__} -> {y}; f[1] //. f[n_] :> n + 1; Hold[f[1]] //. f[n_] :> n + 1
+each_round_begins_with_a_value :
+    cells (
+    of Builtin.ReplaceRepeated (
+    numbers (3 ∷ 1 ∷ 2 ∷ [])
+    ∷ rule (condition (list (some_blanks x' ∷ blank y' ∷ blank z' ∷ some_blanks w' ∷ [])) (of Builtin.Greater (y' ∷ z' ∷ []))) (list (x' ∷ z' ∷ y' ∷ w' ∷ [])) ∷ [])
+    ∷ of Builtin.ReplaceRepeated (numbers (1 ∷ 2 ∷ 3 ∷ []) ∷ rule (list (blank x' ∷ blanks y' ∷ [])) (list (y' ∷ [])) ∷ [])
+    ∷ of Builtin.ReplaceRepeated (apply f' (int 1) ∷ of Builtin.RuleDelayed (apply f' (blank n') ∷ plus n' (int 1) ∷ []) ∷ [])
+    ∷ of Builtin.ReplaceRepeated (of Builtin.Hold (apply f' (int 1) ∷ []) ∷ of Builtin.RuleDelayed (apply f' (blank n') ∷ plus n' (int 1) ∷ []) ∷ []) ∷ [])
+    ≡ value (numbers (1 ∷ 2 ∷ 3 ∷ []))
+    ∷ value (numbers (3 ∷ []))
+    ∷ value (int 2)
+    ∷ value (of Builtin.Hold (plus (int 1) (int 1) ∷ [])) ∷ []
+unfolding eval row worked matches
+each_round_begins_with_a_value = refl
+
+-- b := c; a //. {a :> b, c -> d}, where the second round meets c
+what_a_round_made_is_evaluated :
+    cells (
+    delayed b' c'
+    ∷ of Builtin.ReplaceRepeated (a' ∷ list (of Builtin.RuleDelayed (a' ∷ b' ∷ []) ∷ rule c' x' ∷ []) ∷ []) ∷ [])
+    ≡ null
+    ∷ value x' ∷ []
+unfolding eval row worked matches
+what_a_round_made_is_evaluated = refl

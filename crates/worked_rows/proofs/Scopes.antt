@@ -1,9 +1,9 @@
 -- Module, Block, With, Function and putting in place.
 use Rattle.std.proofs.Common.{◌≡◌, refl, [], ◌∷◌}
-use Rattle.expr_tree.specs.Tree.{call}
+use Rattle.expr_tree.specs.Tree.{Tree, call}
 use Rattle.expr_tree.specs.declared.limits.Stop.{Stop}
 use Rattle.semantics.specs.declared.builtin.Builtin.{Builtin}
-use Rattle.semantics.specs.Eval.{eval}
+use Rattle.semantics.specs.Eval.{Outcome, eval}
 use Rattle.semantics.specs.Table.{row, worked}
 use Rattle.worked_rows.specs.Sample.{a', apply, b', c', cells, equals, f', int, list, made, null, numbers, of, plus, stopped, symbol_of_row, value, x', y'}
 
@@ -128,3 +128,58 @@ slots_do_not_enter_an_inner_function :
     ≡ value (list (a' ∷ of Builtin.Function (of Builtin.Slot (int 1 ∷ []) ∷ []) ∷ [])) ∷ []
 unfolding eval row worked
 slots_do_not_enter_an_inner_function = refl
+
+-- (Hold[Slot[#]] &)[7]; Function[{Slot[0], Slot[1, #], SlotSequence[#], Slot[]}][7]
+another_shape_is_no_slot :
+    cells (
+    apply (of Builtin.Function (of Builtin.Hold (of Builtin.Slot (of Builtin.Slot (int 1 ∷ []) ∷ []) ∷ []) ∷ [])) (int 7)
+    ∷ apply (of Builtin.Function (list (
+    of Builtin.Slot (int 0 ∷ []) ∷ of Builtin.Slot (int 1 ∷ of Builtin.Slot (int 1 ∷ []) ∷ [])
+    ∷ of Builtin.SlotSequence (of Builtin.Slot (int 1 ∷ []) ∷ []) ∷ of Builtin.Slot [] ∷ []) ∷ [])) (int 7) ∷ [])
+    ≡ value (of Builtin.Hold (of Builtin.Slot (int 7 ∷ []) ∷ []))
+    ∷ value (list (of Builtin.Slot (int 0 ∷ []) ∷ of Builtin.Slot (int 1 ∷ int 7 ∷ []) ∷ of Builtin.SlotSequence (int 7 ∷ []) ∷ of Builtin.Slot [] ∷ [])) ∷ []
+unfolding eval row worked
+another_shape_is_no_slot = refl
+
+-- With[{x = 3}, Hold[e]]
+with_three : Tree → Tree
+with_three e = of Builtin.With (list (equals x' (int 3) ∷ []) ∷ of Builtin.Hold (e ∷ []) ∷ [])
+
+held : Tree → Outcome
+held e = value (of Builtin.Hold (e ∷ []))
+
+-- Module[{x, 5}, x]; Module[{x}, x, x]; With[{x}, x]; Function[{x, 5}, x]; Function[{x = 1}, x]; Function[x, x, x]; Module[x, x]
+another_shape_binds_nothing :
+    cells (
+    with_three (of Builtin.Module (list (x' ∷ int 5 ∷ []) ∷ x' ∷ []))
+    ∷ with_three (of Builtin.Module (list (x' ∷ []) ∷ x' ∷ x' ∷ []))
+    ∷ with_three (of Builtin.With (list (x' ∷ []) ∷ x' ∷ []))
+    ∷ with_three (of Builtin.Function (list (x' ∷ int 5 ∷ []) ∷ x' ∷ []))
+    ∷ with_three (of Builtin.Function (list (equals x' (int 1) ∷ []) ∷ x' ∷ []))
+    ∷ with_three (of Builtin.Function (x' ∷ x' ∷ x' ∷ []))
+    ∷ with_three (of Builtin.Module (x' ∷ x' ∷ [])) ∷ [])
+    ≡ held (of Builtin.Module (list (int 3 ∷ int 5 ∷ []) ∷ int 3 ∷ []))
+    ∷ held (of Builtin.Module (list (int 3 ∷ []) ∷ int 3 ∷ int 3 ∷ []))
+    ∷ held (of Builtin.With (list (int 3 ∷ []) ∷ int 3 ∷ []))
+    ∷ held (of Builtin.Function (list (int 3 ∷ int 5 ∷ []) ∷ int 3 ∷ []))
+    ∷ held (of Builtin.Function (list (equals (int 3) (int 1) ∷ []) ∷ int 3 ∷ []))
+    ∷ held (of Builtin.Function (int 3 ∷ int 3 ∷ int 3 ∷ []))
+    ∷ held (of Builtin.Module (int 3 ∷ int 3 ∷ [])) ∷ []
+unfolding with_three held eval row worked
+another_shape_binds_nothing = refl
+
+-- Module[{y = x, x}, x]; Module[{x, x}, x]; With[{x = x}, x]; Function[{y, x}, x]; Function[x, x]
+these_shapes_bind :
+    cells (
+    with_three (of Builtin.Module (list (equals y' x' ∷ x' ∷ []) ∷ x' ∷ []))
+    ∷ with_three (of Builtin.Module (list (x' ∷ x' ∷ []) ∷ x' ∷ []))
+    ∷ with_three (of Builtin.With (list (equals x' x' ∷ []) ∷ x' ∷ []))
+    ∷ with_three (of Builtin.Function (list (y' ∷ x' ∷ []) ∷ x' ∷ []))
+    ∷ with_three (of Builtin.Function (x' ∷ x' ∷ [])) ∷ [])
+    ≡ held (of Builtin.Module (list (equals y' x' ∷ x' ∷ []) ∷ x' ∷ []))
+    ∷ held (of Builtin.Module (list (x' ∷ x' ∷ []) ∷ x' ∷ []))
+    ∷ held (of Builtin.With (list (equals x' x' ∷ []) ∷ x' ∷ []))
+    ∷ held (of Builtin.Function (list (y' ∷ x' ∷ []) ∷ x' ∷ []))
+    ∷ held (of Builtin.Function (x' ∷ x' ∷ [])) ∷ []
+unfolding with_three held eval row worked
+these_shapes_bind = refl

@@ -1,15 +1,17 @@
 -- The outside: parallel forms, shared symbols, sections, Print, and the modes.
 use Rattle.std.proofs.Common.{◌≡◌, refl, true, false, List, [], ◌∷◌}
-use Rattle.std.specs.Prelude.{codes}
+use Rattle.std.specs.Prelude.{ℕ, codes}
+use Rattle.expr_tree.specs.declared.limits.Limits.{Limits}
 use Rattle.expr_tree.specs.declared.limits.Stop.{Stop}
 use Rattle.expr_tree.specs.Tree.{Tree, string}
 use Rattle.semantics.specs.declared.builtin.Builtin.{Builtin}
 use Rattle.semantics.specs.Definitions.{Definitions, Variable, Function, empty}
-use Rattle.semantics.specs.Program.{Service, Access, Count, Print, Outside, Sends, Enter, Leave}
+use Rattle.semantics.specs.Program.{Cell, Service, Access, Count, Print, Outside, Sends, Enter, Leave}
 use Rattle.semantics.specs.Play.{Setting, Reply, Replied, Halted, Quit}
 use Rattle.semantics.specs.Eval.{Event, Outcome, Ended, Needs, Wrong, eval}
 use Rattle.semantics.specs.Table.{row, worked}
-use Rattle.worked_rows.specs.Sample.{a', apply, b', blank, f', failed, i', in_cell, in_item, int, j', list, lock', n', null, numbers, of, plus, setting, stopped, sym, symbol_of_row, times, usual, value, x'}
+use Rattle.semantics.specs.Match.{matches}
+use Rattle.worked_rows.specs.Sample.{a', apply, b', blank, e', equals, f', failed, g', h', i', in_cell, in_item, int, j', list, lock', n', null, numbers, of, plus, rule, setting, stopped, sym, symbol_of_row, times, usual, value, x', y'}
 
 in_service : Setting
 in_service = setting Service 0 usual
@@ -117,6 +119,79 @@ waiting_for_nothing : item (of Builtin.WaitAll (int 3 ∷ [])) [] ≡ value (int
 unfolding item sharing eval row
 waiting_for_nothing = refl
 
+-- WaitAll[3] is no call in a cell either, and no mode matters; WaitAll[EvaluationObject[7]] is a call, whether there is such an item or not
+a_cell_waits_for_nothing : cell (of Builtin.WaitAll (int 3 ∷ [])) [] ≡ value (int 3)
+unfolding cell eval row
+a_cell_waits_for_nothing = refl
+
+waiting_for_nothing_uses_no_mode : (eval in_item sharing (of Builtin.WaitAll (int 3 ∷ [])) []).used ≡ false
+unfolding sharing eval row
+waiting_for_nothing_uses_no_mode = refl
+
+a_cell_waits_for_an_object :
+    cell (of Builtin.WaitAll (apply h' (of Builtin.EvaluationObject (int 7 ∷ [])) ∷ [])) [] ≡ asks (of Builtin.WaitAll (apply h' (of Builtin.EvaluationObject (int 7 ∷ [])) ∷ []))
+unfolding cell asks eval row worked
+a_cell_waits_for_an_object = refl
+
+-- ParallelCombine[h, Method -> 1, g]; ParallelTable[e, Method -> x, {i, 3}] in an item and in a cell; ParallelTable[e, Method -> x]: an option stands last
+method : Tree → Tree
+method e = rule (symbol_of_row Builtin.Method) e
+
+a_list_before_the_last_is_no_option :
+    item (of Builtin.ParallelCombine (h' ∷ method (int 1) ∷ g' ∷ [])) [] ≡ value (apply g' (apply h' (method (int 1))))
+unfolding item sharing method eval row worked
+a_list_before_the_last_is_no_option = refl
+
+an_iterator_before_the_last_is_no_option :
+    item (of Builtin.ParallelTable (e' ∷ method x' ∷ list (i' ∷ int 3 ∷ []) ∷ [])) [] ≡ value (of Builtin.Table (e' ∷ method x' ∷ list (i' ∷ int 3 ∷ []) ∷ []))
+unfolding item sharing method eval row worked
+an_iterator_before_the_last_is_no_option = refl
+
+a_cell_has_no_such_iterator :
+    cell (of Builtin.ParallelTable (e' ∷ method x' ∷ list (i' ∷ int 3 ∷ []) ∷ [])) [] ≡ value (of Builtin.ParallelTable (e' ∷ method x' ∷ list (i' ∷ int 3 ∷ []) ∷ []))
+unfolding cell method eval row worked
+a_cell_has_no_such_iterator = refl
+
+an_option_is_no_iterator : item (of Builtin.ParallelTable (e' ∷ method x' ∷ [])) [] ≡ value (of Builtin.ParallelTable (e' ∷ method x' ∷ []))
+unfolding item sharing method eval row worked
+an_option_is_no_iterator = refl
+
+-- DistributeDefinitions[], SetSharedVariable[] and SetSharedFunction[] are calls in a cell
+no_symbols_are_distributed : cell (of Builtin.DistributeDefinitions []) [] ≡ asks (of Builtin.DistributeDefinitions [])
+unfolding cell asks eval row
+no_symbols_are_distributed = refl
+
+no_variables_are_shared : cell (of Builtin.SetSharedVariable []) [] ≡ asks (of Builtin.SetSharedVariable [])
+unfolding cell asks eval row
+no_variables_are_shared = refl
+
+no_functions_are_shared : cell (of Builtin.SetSharedFunction []) [] ≡ asks (of Builtin.SetSharedFunction [])
+unfolding cell asks eval row
+no_functions_are_shared = refl
+
+an_item_distributes_nothing : item (of Builtin.DistributeDefinitions []) [] ≡ failed
+unfolding item sharing eval row
+an_item_distributes_nothing = refl
+
+-- y = {{1}}; ParallelTable[i, {i, y}]: the form is judged as it is sent, with the parts as evaluated; it has 7 nodes and depth 5
+form_in : ℕ → ℕ → Outcome
+form_in nodes levels =
+    let limits : Limits = record { recursion = 256; iteration = 4096; steps = 1000000; size = nodes; depth = levels } in
+    let set : Setting = in_cell limits in
+    (eval set (eval set empty (equals y' (list (numbers (1 ∷ []) ∷ []))) []).definitions (of Builtin.ParallelTable (i' ∷ list (i' ∷ y' ∷ []) ∷ [])) []).outcome
+
+a_form_of_this_size : form_in 7 5 ≡ asks (of Builtin.ParallelTable (i' ∷ list (i' ∷ list (numbers (1 ∷ []) ∷ []) ∷ []) ∷ []))
+unfolding form_in asks eval row worked
+a_form_of_this_size = refl
+
+a_form_that_is_too_large : form_in 6 4 ≡ stopped Stop.Size
+unfolding form_in eval row worked
+a_form_that_is_too_large = refl
+
+a_form_that_is_too_deep : form_in 7 4 ≡ stopped Stop.Depth
+unfolding form_in eval row worked
+a_form_that_is_too_deep = refl
+
 -- ---- shared symbols
 
 -- n; n++ + 1: an access is sent as it stands, and its reply goes on; n++ twice are two accesses
@@ -146,6 +221,27 @@ an_access_of_any_length = refl
 an_identical_reply_stays : item n' (read_as n' n' ∷ []) ≡ value n'
 unfolding item sharing read_as eval
 an_identical_reply_stays = refl
+
+-- f[Unevaluated[x]] sends f[x]; where that comes back the pass has no result, and what stood before the wrapper was taken off stands again
+an_access_is_without_the_wrapper : item (apply f' (of Builtin.Unevaluated (x' ∷ []))) [] ≡ accesses (apply f' x')
+unfolding item sharing accesses eval row worked
+an_access_is_without_the_wrapper = refl
+
+an_identical_reply_is_no_result :
+    item (apply f' (of Builtin.Unevaluated (x' ∷ []))) (read_as (apply f' x') (apply f' x') ∷ []) ≡ value (apply f' (of Builtin.Unevaluated (x' ∷ [])))
+unfolding item sharing read_as eval row worked
+an_identical_reply_is_no_result = refl
+
+another_reply_is_a_result : item (apply f' (of Builtin.Unevaluated (x' ∷ []))) (read_as (apply f' x') (int 4) ∷ []) ≡ value (int 4)
+unfolding item sharing read_as eval row worked
+another_reply_is_a_result = refl
+
+-- {x[f] = 1, x[f] =., x[f]} with the shared f: the rules of f are not the item's
+an_item_keeps_what_a_shared_symbol_may_hold :
+    item (list (equals (apply x' f') (int 1) ∷ of Builtin.Unset (apply x' f' ∷ []) ∷ apply x' f' ∷ [])) []
+    ≡ value (list (int 1 ∷ symbol_of_row Builtin.Failed ∷ int 1 ∷ []))
+unfolding item sharing eval row matches worked
+an_item_keeps_what_a_shared_symbol_may_hold = refl
 
 -- Clear[f] of a shared function is neither access nor definition; n /: x[n] = 1 and Block[{n}, 1] are refused
 clearing_a_shared_function : item (of Builtin.Clear (f' ∷ [])) [] ≡ null
@@ -208,6 +304,14 @@ no_section_in_a_service = refl
 the_kernels_number : item (symbol_of_row Builtin.KernelID) [] ≡ value (int 3)
 unfolding item sharing eval
 the_kernels_number = refl
+
+a_cell_belongs_to_the_master : (eval (setting Cell 3 usual) empty (symbol_of_row Builtin.KernelID) []).outcome ≡ value (int 0)
+unfolding eval
+a_cell_belongs_to_the_master = refl
+
+a_service_belongs_to_the_master : (eval (setting Service 3 usual) empty (symbol_of_row Builtin.KernelID) []).outcome ≡ value (int 0)
+unfolding eval
+a_service_belongs_to_the_master = refl
 
 the_count_is_asked : item (symbol_of_row Builtin.KernelCount) [] ≡ Needs (Sends Count)
 unfolding item sharing eval

@@ -160,6 +160,9 @@ v' = symbol (sym 26)
 abbrev pub u' : Tree
 u' = symbol (sym 27)
 
+abbrev pub z' : Tree
+z' = symbol (sym 28)
+
 -- ---- expressions
 
 abbrev pub int : ℕ → Tree
