@@ -16,7 +16,7 @@ use Rattle.semantics.specs.declared.builtin.Builtin.{Builtin}
 use Rattle.semantics.specs.Names.{name}
 use Rattle.expr_tree.specs.declared.limits.Stop.{Stop}
 use Rattle.semantics.specs.Pass.{pass}
-use Rattle.semantics.specs.Play.{Setting, State, End, Value, Stopped, Replied, Halted, Shut, Lacking, Play, Over, ending, on_value, after, with_locals, without_locals, leaving_locals, with_definitions, all_among, by_locks, sectioned, calling, opened, leaving, seen, written, now_used, run, passes, eval_at, too_large, unless_stopped, last_number, judged}
+use Rattle.semantics.specs.Play.{Setting, State, End, Value, Stopped, Replied, Halted, Shut, Lacking, Play, Over, ending, on_value, after, with_locals, without_locals, leaving_locals, with_definitions, all_among, by_locks, sectioned, calling, opened, leaving, seen, written, now_used, run, passes, eval_at, too_large, unless_stopped, last_number, judged, passed}
 use Rattle.evaluation_steps.specs.declared.Halt.{Halt}
 use Rattle.evaluation_steps.specs.Leads.{Step, Leads, here, called, Went}
 use Rattle.evaluation_steps.specs.Words.{Evaluated, Settled, Played, Reached, Ran, Led, Called, Gives, Counted, Fits, FitsBy, Numbered}
@@ -64,6 +64,15 @@ module _ {S : Type 0} {step : Step S} where
   went_after {r = Err Halt.Quit} k w = record { by = ending_leads (on_value k) w.by }
   went_after {r = Err Halt.Closed} k w = record { by = ending_leads (on_value k) w.by }
   went_after {r = Err Halt.NoMemory} k w = record { by = (ending w.by.0 (on_value k), ending_leads (on_value k) w.by.1) }
+
+  -- the end of a pass
+  went_passed : {s z : S} {t : Play} {r : Result Tree Halt} {st : State} (set : Setting) (m : ℕ) (on : Tree → State → Play) (e : Tree)
+      → Went step s t r (λ v. Over (Value v) st) st z → Went step s (ending t (passed set m on e)) r (λ v. judged set m on e v st) st z
+  went_passed {r = Ok v} set m on e w = record { by = ending_leads (passed set m on e) w.by }
+  went_passed {r = Err (Halt.Stopped c)} set m on e w = record { by = ending_leads (passed set m on e) w.by }
+  went_passed {r = Err Halt.Quit} set m on e w = record { by = ending_leads (passed set m on e) w.by }
+  went_passed {r = Err Halt.Closed} set m on e w = record { by = ending_leads (passed set m on e) w.by }
+  went_passed {r = Err Halt.NoMemory} set m on e w = record { by = (ending w.by.0 (passed set m on e), ending_leads (passed set m on e) w.by.1) }
 
   -- locals are put back however it ends
   pub went_locals : {s z : S} {t : Play} {r : Result Tree Halt} {st : State} (set : Setting) (old : Definitions) (ls : List Local) (k : Tree → State → Play)
@@ -466,13 +475,13 @@ module _ {S : Type 0} {step : Step S} {set : Setting} {n : ℕ} where
 
   pass_leads : (m : ℕ) (e : Tree) {v : Tree} {s z : S} {st st' : State} → Played step set n (pass set.names e) s st (Ok v) st' z →
       Leads step s (passes set (eval_at set n) m e st) (judging set n m e v st') z
-  pass_leads zero e a = ending_leads (on_value (judging set n zero e)) a.went.by
-  pass_leads (suc m) e a = ending_leads (on_value (judging set n (suc m) e)) a.went.by
+  pass_leads zero e a = (went_passed set zero (again set n zero) e a.went).by
+  pass_leads (suc m) e a = (went_passed set (suc m) (again set n (suc m)) e a.went).by
 
   -- the pass gave no value
   pub settled_pass_out : (m : ℕ) (e : Tree) {h : Halt} {s z : S} {st st' : State} → Played step set n (pass set.names e) s st (Err h) st' z → Settled step set n m e s st (Err h) st' z
-  settled_pass_out zero e a = record { went = went_out (went_after (judging set n zero e) a.went) }
-  settled_pass_out (suc m) e a = record { went = went_out (went_after (judging set n (suc m) e) a.went) }
+  settled_pass_out zero e a = record { went = went_out (went_passed set zero (again set n zero) e a.went) }
+  settled_pass_out (suc m) e a = record { went = went_out (went_passed set (suc m) (again set n (suc m)) e a.went) }
 
   -- its value is too large
   pub settled_large : (m : ℕ) (e : Tree) {v : Tree} {h : Halt} {s z : S} {st st' : State} → Played step set n (pass set.names e) s st (Ok v) st' z → Fits set.limits v (Err h) →
