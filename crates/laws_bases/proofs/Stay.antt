@@ -1,6 +1,7 @@
 -- Evaluation adds no base: the simulation for the relation "the same symbol, with a base below a number".
 use Rattle.std.proofs.Common.{◌≡◌, refl, sym, ap, ◌∙◌, ℕ, ◌+◌, ◌*◌, ◌<◌, arith, false, ltb, List, true≢false, ltb-true}
 use Rattle.std.specs.Prelude.{◌==◌}
+use Rattle.std.proofs.Math.Nat.{mul-le-mul_left}
 use Rattle.expr_tree.specs.declared.sym.Sym.{Sym}
 use Rattle.expr_tree.specs.Tree.{Tree}
 use Rattle.expr_tree.specs.Order.{symbol_cmp, same_symbol}
