@@ -1,6 +1,7 @@
 -- Evaluation adds no base: the simulation for the relation "the same symbol, with a base below a number".
-use Rattle.std.proofs.Common.{◌≡◌, refl, sym, ap, ◌∙◌, ℕ, ◌+◌, ◌<◌, arith, false, ltb, List, true≢false, ltb-true}
+use Rattle.std.proofs.Common.{◌≡◌, refl, sym, ap, ◌∙◌, ℕ, ◌+◌, ◌*◌, ◌<◌, arith, false, ltb, List, true≢false, ltb-true}
 use Rattle.std.specs.Prelude.{◌==◌}
+use Rattle.std.proofs.Math.Nat.{mul-le-mul_left}
 use Rattle.expr_tree.specs.declared.sym.Sym.{Sym}
 use Rattle.expr_tree.specs.Tree.{Tree}
 use Rattle.expr_tree.specs.Order.{symbol_cmp, same_symbol}
@@ -12,11 +13,11 @@ use Rattle.semantics.specs.Play.{Setting, State, Play, Over, Calls, first_cause,
 use Rattle.semantics.specs.Eval.{Event, Ended, over, eval}
 use Rattle.laws_relations.proofs.Beyond.{Past, Beyond, put_number, back_number}
 use Rattle.laws_relations.proofs.Relation.{Faithful, size-like, depth-like, same-like}
-use Rattle.laws_relations.proofs.Simulation.{evenly, Ends, value, stopped, quit, Quietly, quiet, used, beyond, Related, eval_at-alike}
+use Rattle.laws_relations.proofs.Simulation.{evenly, Ends, value, stopped, throwing, thrown, quit, Quietly, quiet, used, beyond, Related, eval_at-alike}
 use Rattle.laws_relations.proofs.Kin.{Kin}
 use Rattle.laws_relations.proofs.Passes.{pass-both}
 use Rattle.laws_relations.proofs.States.{LikeState, seen-like, written-like, put_locals-like, put_back-like}
-use Rattle.laws_numbers.proofs.Paying.{Paid, Ensures, grew, eval_pays, used_over}
+use Rattle.laws_numbers.proofs.Paying.{Paid, Ensures, Bounded, whole_pays, used_over}
 use Rattle.laws_bases.specs.Kept.{IsKeptOutcome, StaysKept, BasesStay}
 use Rattle.laws_bases.proofs.Kin.{S, tree-like, definitions-like, tree-kept, definitions-kept}
 
@@ -113,6 +114,8 @@ module _ (set : Setting) (count bound : ℕ) (rows : (row : Builtin) → set.nam
   end-kept : {o p : _} → Ends kin o p → IsKeptOutcome count (Ended o)
   end-kept (value v) = tree-kept count v
   end-kept stopped = tt
+  end-kept (throwing v) = tree-kept count v
+  end-kept (thrown v) = tree-kept count v
   end-kept quit = tt
 
   -- what is past the bound, where a play has ended
@@ -125,15 +128,17 @@ module _ (set : Setting) (count bound : ℕ) (rows : (row : Builtin) → set.nam
   past_in Beyond.calls = tt
 
   -- an evaluation from d never gets there
-  never_past : (d : Definitions) (e : Tree) (p : Play) (events : List Event) → d.module_number + (set.limits.steps + set.limits.recursion) < bound
-      → Ensures (λ v t. Paid (grew e v) 0 (begun d) t) (λ t. Paid 0 set.limits.recursion (begun d) t) p → PastIn p → (over p events).used ≡ false → ⊥
-  never_past d e p events small (Ensures.value one) far free = omega (arith, one.pays, far.0, far.1, small)
-  never_past d e p events small (Ensures.stopped one) far free = omega (arith, one.pays, far.0, far.1, small)
-  never_past d e p events small (Ensures.quits one) far free = omega (arith, one.pays, far.0, far.1, small)
+  never_past : (d : Definitions) (e : Tree) (p : Play) (events : List Event) → d.module_number + (set.limits.recursion * set.limits.steps + set.limits.recursion) < bound
+      → Bounded set d e p → PastIn p → (over p events).used ≡ false → ⊥
+  never_past d e p events small (Ensures.value {t = t} one) far free = omega (arith, one.pays, far.0, mul-le-mul_left set.limits.recursion far.1, small)
+  never_past d e p events small (Ensures.stopped {t = t} one) far free = omega (arith, one.pays, far.0, mul-le-mul_left set.limits.recursion far.1, small)
+  never_past d e p events small (Ensures.throwing {t = t} one) far free = omega (arith, one.pays, far.0, mul-le-mul_left set.limits.recursion far.1, small)
+  never_past d e p events small (Ensures.thrown {t = t} one) far free = omega (arith, one.pays, far.0, mul-le-mul_left set.limits.recursion far.1, small)
+  never_past d e p events small (Ensures.quits {t = t} one) far free = omega (arith, one.pays, far.0, mul-le-mul_left set.limits.recursion far.1, small)
   never_past d e p events small (Ensures.used h) far free = true≢false (sym (used_over h events) ∙ free)
 
-  results-kept : (d : Definitions) (e : Tree) {p q : Play} (events : List Event) → d.module_number + (set.limits.steps + set.limits.recursion) < bound
-      → Ensures (λ v t. Paid (grew e v) 0 (begun d) t) (λ t. Paid 0 set.limits.recursion (begun d) t) p → (over p events).used ≡ false → Quietly kin p q
+  results-kept : (d : Definitions) (e : Tree) {p q : Play} (events : List Event) → d.module_number + (set.limits.recursion * set.limits.steps + set.limits.recursion) < bound
+      → Bounded set d e p → (over p events).used ≡ false → Quietly kin p q
       → StaysKept count events (over p events)
   results-kept d e events small ensured free (quiet ends states) =
       record { value = end-kept ends; definitions = definitions-kept count states.definitions; no_call = refl }
@@ -143,7 +148,7 @@ module _ (set : Setting) (count bound : ℕ) (rows : (row : Builtin) → set.nam
 pub bases_stay : BasesStay
 unfolding eval
 bases_stay set count rows d e events defined kept free =
-    let bound : ℕ = d.module_number + (set.limits.steps + set.limits.recursion) + 1 in
-    results-kept set count bound rows d e events (omega arith) (eval_pays set set.limits.recursion e (begun d)) free
+    let bound : ℕ = d.module_number + (set.limits.recursion * set.limits.steps + set.limits.recursion) + 1 in
+    results-kept set count bound rows d e events (omega arith) (whole_pays set d e) free
     (eval_at-alike (kin set count bound rows) set (related set count bound rows) set.limits.recursion e e (begun d) (begun d) (tree-like count e kept)
     (record { definitions = definitions-like count d defined; number = refl; steps = refl; within = omega arith; used = refl }))

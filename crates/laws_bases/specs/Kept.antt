@@ -1,6 +1,6 @@
 -- The bases of symbols: evaluation makes no new ones.
 --     AreKeptIn            the bases of all symbols in definitions are below a number
---     IsKeptOutcome        those of a value
+--     IsKeptOutcome        those of a value, and of what was thrown
 --     BasesStay            an evaluation from there gives and leaves no others
 use Rattle.std.specs.Prelude.{◌≡◌, ℕ, ◌<◌, List, [], ◌∷◌, Option, Some, None, false}
 use Rattle.expr_tree.specs.declared.sym.Sym.{Sym}
@@ -9,7 +9,7 @@ use Rattle.script_text.specs.Laws.{IsKept}
 use Rattle.semantics.specs.declared.builtin.Builtin.{Builtin}
 use Rattle.semantics.specs.Rule.{Rule}
 use Rattle.semantics.specs.Definitions.{Definition, Definitions, Shared}
-use Rattle.semantics.specs.Play.{Setting, Value}
+use Rattle.semantics.specs.Play.{Setting, Value, Throwing, Thrown}
 use Rattle.semantics.specs.Eval.{Event, Outcome, Ended, Evaluation, eval}
 
 module _ (count : ℕ) where
@@ -45,6 +45,8 @@ module _ (count : ℕ) where
 
   abbrev pub IsKeptOutcome : Outcome → Type 0
   IsKeptOutcome (Ended (Value v)) = IsKept count v
+  IsKeptOutcome (Ended (Throwing v)) = IsKept count v
+  IsKeptOutcome (Ended (Thrown v)) = IsKept count v
   IsKeptOutcome _ = Unit {0}
 
   -- and no call was made

@@ -1,5 +1,5 @@
 -- The bundle agrees with the definitions on the closure, which holds no name that a Module may make.
-use Rattle.std.proofs.Common.{◌≡◌, sym, ap, subst, ◌∙◌, ℕ, ◌+◌, ◌<◌, true, List, []}
+use Rattle.std.proofs.Common.{◌≡◌, sym, ap, subst, ◌∙◌, ℕ, ◌+◌, ◌*◌, ◌<◌, true, List, []}
 use Rattle.expr_tree.specs.declared.sym.Sym.{Sym}
 use Rattle.expr_tree.specs.Tree.{Tree}
 use Rattle.semantics.specs.Names.{IsNames}
@@ -22,7 +22,7 @@ use Rattle.laws_named.specs.Named.{IsQuietButForNames, GivesValue, NamedAnywhere
 
 module _ (set : Setup) (is : IsNames set.names) (d : Definitions) (free : NoNameShared set.names d) (a : Tree) (named : IsQuietButForNames set d a) (by : ℕ) (c : Definitions)
     (agree : AgreeOn set.names (InClosure set.names d (symbols_of a)) (with_number (d.module_number + by) d) c)
-    (room : d.module_number + by + (set.limits.steps + set.limits.recursion) < last_number) where
+    (room : d.module_number + by + (set.limits.recursion * set.limits.steps + set.limits.recursion) < last_number) where
   abbrev C : Sym → Type 0
   C = InClosure set.names d (symbols_of a)
 
@@ -44,7 +44,7 @@ module _ (set : Setup) (is : IsNames set.names) (d : Definitions) (free : NoName
       (λ s s_in. subst (λ n. s.number < n) agrees.number (named.none_to_come s s_in))
       (subst (λ n. shared_below n known.shared ≡ true) agrees.number (subst (λ l. shared_below d.module_number l ≡ true) agrees.shared named.shared))
       (subst (λ n. 0 < n) agrees.number named.started) is a [] (λ s e. seed s e)
-      (subst (λ n. n + by + (set.limits.steps + set.limits.recursion) < last_number) agrees.number room) named.unused
+      (subst (λ n. n + by + (set.limits.recursion * set.limits.steps + set.limits.recursion) < last_number) agrees.number room) named.unused
 
   pub in_any_mode : (mode : Mode) (kernel : ℕ) (events : List Event) → GivesValue set d a named.value events (eval (in_mode set mode kernel) c a events)
   in_any_mode mode kernel events =

@@ -2,7 +2,7 @@
 --     IsQuietButForNames    it gives a value without generated names, from a closure without any, and mode and kernel do not matter
 --     GivesValue            an evaluation that gives this value, as the application does by itself
 --     NamedAnywhere         from definitions that agree on the closure, whatever module number they have, it does so
-use Rattle.std.specs.Prelude.{◌≡◌, ℕ, ◌+◌, ◌<◌, List, true, false}
+use Rattle.std.specs.Prelude.{◌≡◌, ℕ, ◌+◌, ◌*◌, ◌<◌, List, true, false}
 use Rattle.expr_tree.specs.Tree.{Tree}
 use Rattle.semantics.specs.Names.{IsNames}
 use Rattle.semantics.specs.Definitions.{Definitions}
@@ -39,5 +39,5 @@ abbrev pub NamedAnywhere : Type 0
 NamedAnywhere =
     (set : Setup) → IsNames set.names → (d : Definitions) → NoNameShared set.names d → (a : Tree) (named : IsQuietButForNames set d a)
     → (by : ℕ) (c : Definitions) → AgreeOn set.names (InClosure set.names d (symbols_of a)) (with_number (d.module_number + by) d) c
-    → d.module_number + by + (set.limits.steps + set.limits.recursion) < last_number
+    → d.module_number + by + (set.limits.recursion * set.limits.steps + set.limits.recursion) < last_number
     → (mode : Mode) (kernel : ℕ) (events : List Event) → GivesValue set d a named.value events (eval (in_mode set mode kernel) c a events)

@@ -4,7 +4,8 @@
 
 ghost use Rattle.laws_numbers.specs.Bound.{NumbersBounded};
 
-/// An evaluation that ends with a value takes no more module numbers than steps; one that ends otherwise no more than steps and nested evaluations.
+/// An evaluation that ends with a value takes at most so many module numbers for each of its steps as evaluations may be nested; one that ends
+/// otherwise takes that many more.
 pub fn module_numbers_are_bounded()
     ensures law { NumbersBounded }
 {}

@@ -26,6 +26,8 @@ value_is {u} {v} e = ap from e
     from : Outcome → Tree
     from (Ended (End.Value x)) = x
     from (Ended (End.Stopped c)) = u
+    from (Ended (End.Throwing x)) = u
+    from (Ended (End.Thrown x)) = u
     from (Ended End.Quit) = u
     from (Ended End.Closed) = u
     from (Ended End.Starved) = u
@@ -37,6 +39,8 @@ goes_on : (p : Play) (names : Names) (k : ℕ) (go : Tree → Definitions → At
     → attempt_of p (valued names k go) ≡ go v (over p []).definitions
 goes_on (Over (End.Value u) s) names k go v e = ap (λ x. go x s.definitions) (value_is e)
 goes_on (Over (End.Stopped c) s) names k go v e = absurd (Prim.cc e)
+goes_on (Over (End.Throwing x) s) names k go v e = absurd (Prim.cc e)
+goes_on (Over (End.Thrown x) s) names k go v e = absurd (Prim.cc e)
 goes_on (Over End.Quit s) names k go v e = absurd (Prim.cc e)
 goes_on (Over End.Closed s) names k go v e = absurd (Prim.cc e)
 goes_on (Over End.Starved s) names k go v e = absurd (Prim.cc e)

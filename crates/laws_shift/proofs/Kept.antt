@@ -1,20 +1,21 @@
 -- The law of shifted names: the simulation for the relation "shifted", with the numbers that can be taken as its bound.
-use Rattle.std.proofs.Common.{◌≡◌, refl, sym, ap, subst, ◌∙◌, ℕ, ◌+◌, ◌≤◌, ◌<◌, arith, Bool, true, false, ltb, List, true≢false, ltb-true, ltb-false, ne_eqb, lt_irrefl}
+use Rattle.std.proofs.Common.{◌≡◌, refl, sym, ap, subst, ◌∙◌, ℕ, ◌+◌, ◌*◌, ◌≤◌, ◌<◌, arith, Bool, true, false, ltb, List, true≢false, ltb-true, ltb-false, ne_eqb, lt_irrefl}
 use Rattle.std.specs.Prelude.{◌==◌}
+use Rattle.std.proofs.Math.Nat.{mul-le-mul_left}
 use Rattle.expr_tree.specs.declared.sym.Sym.{Sym}
 use Rattle.expr_tree.specs.Tree.{Tree}
 use Rattle.semantics.specs.Definitions.{Definitions}
 use Rattle.semantics.specs.Scoping.{renamed}
-use Rattle.semantics.specs.Play.{Setting, State, Value, Play, Over, Calls, first_cause, last_number, begun}
+use Rattle.semantics.specs.Play.{Setting, State, Value, Throwing, Thrown, Play, Over, Calls, first_cause, last_number, begun}
 use Rattle.semantics.specs.Eval.{Event, Ended, over, eval}
 use Rattle.laws_relations.proofs.Beyond.{Past, Beyond, put_number, back_number}
 use Rattle.laws_relations.proofs.Relation.{Faithful, size-like, depth-like, same-like}
-use Rattle.laws_relations.proofs.Simulation.{Numbered, evenly, past, Ends, value, stopped, quit, Quietly, quiet, used, beyond, Related, eval_at-alike}
+use Rattle.laws_relations.proofs.Simulation.{Numbered, evenly, past, Ends, value, stopped, throwing, thrown, quit, Quietly, quiet, used, beyond, Related, eval_at-alike}
 use Rattle.laws_relations.proofs.Kin.{Kin}
 use Rattle.laws_relations.proofs.Passes.{pass-both}
 use Rattle.laws_relations.proofs.States.{LikeState, seen-like, written-like, put_locals-like, put_back-like}
 use Rattle.laws_relations.proofs.Shift.{shifted_above, shift_is_faithful}
-use Rattle.laws_numbers.proofs.Paying.{Paid, Ensures, grew, eval_pays, used_over}
+use Rattle.laws_numbers.proofs.Paying.{Paid, Ensures, Bounded, whole_pays, used_over}
 use Rattle.laws_shift.specs.Shift.{shift, shift_definitions, shift_outcome, shift_evaluation, ShiftedNames}
 use Rattle.laws_shift.proofs.Shifting.{S, shifts, definitions-shift, tree-is, definitions-are}
 
@@ -123,6 +124,8 @@ module _ (set : Setting) (from by bound : ℕ) (plain : 0 < from) (room : bound 
   ends-shift : {o p : _} → Ends kin o p → Ended p ≡ shift_outcome from by (Ended o)
   ends-shift (value v) = λ i. Ended (Value (tree-is from by v i))
   ends-shift stopped = refl
+  ends-shift (throwing v) = λ i. Ended (Throwing (tree-is from by v i))
+  ends-shift (thrown v) = λ i. Ended (Thrown (tree-is from by v i))
   ends-shift quit = refl
 
   -- what is past the bound, where a play has ended
@@ -135,15 +138,17 @@ module _ (set : Setting) (from by bound : ℕ) (plain : 0 < from) (room : bound 
   past_in Beyond.calls = tt
 
   -- an evaluation from d never gets there
-  never_past : (d : Definitions) (e : Tree) (p : Play) (events : List Event) → d.module_number + (set.limits.steps + set.limits.recursion) < bound
-      → Ensures (λ v t. Paid (grew e v) 0 (begun d) t) (λ t. Paid 0 set.limits.recursion (begun d) t) p → PastIn p → (over p events).used ≡ false → ⊥
-  never_past d e p events small (Ensures.value one) far free = omega (arith, one.pays, far.0, far.1, small)
-  never_past d e p events small (Ensures.stopped one) far free = omega (arith, one.pays, far.0, far.1, small)
-  never_past d e p events small (Ensures.quits one) far free = omega (arith, one.pays, far.0, far.1, small)
+  never_past : (d : Definitions) (e : Tree) (p : Play) (events : List Event) → d.module_number + (set.limits.recursion * set.limits.steps + set.limits.recursion) < bound
+      → Bounded set d e p → PastIn p → (over p events).used ≡ false → ⊥
+  never_past d e p events small (Ensures.value {t = t} one) far free = omega (arith, one.pays, far.0, mul-le-mul_left set.limits.recursion far.1, small)
+  never_past d e p events small (Ensures.stopped {t = t} one) far free = omega (arith, one.pays, far.0, mul-le-mul_left set.limits.recursion far.1, small)
+  never_past d e p events small (Ensures.throwing {t = t} one) far free = omega (arith, one.pays, far.0, mul-le-mul_left set.limits.recursion far.1, small)
+  never_past d e p events small (Ensures.thrown {t = t} one) far free = omega (arith, one.pays, far.0, mul-le-mul_left set.limits.recursion far.1, small)
+  never_past d e p events small (Ensures.quits {t = t} one) far free = omega (arith, one.pays, far.0, mul-le-mul_left set.limits.recursion far.1, small)
   never_past d e p events small (Ensures.used h) far free = true≢false (sym (used_over h events) ∙ free)
 
-  results-shift : (d : Definitions) (e : Tree) {p q : Play} (events : List Event) → d.module_number + (set.limits.steps + set.limits.recursion) < bound
-      → Ensures (λ v t. Paid (grew e v) 0 (begun d) t) (λ t. Paid 0 set.limits.recursion (begun d) t) p → (over p events).used ≡ false → Quietly kin p q
+  results-shift : (d : Definitions) (e : Tree) {p q : Play} (events : List Event) → d.module_number + (set.limits.recursion * set.limits.steps + set.limits.recursion) < bound
+      → Bounded set d e p → (over p events).used ≡ false → Quietly kin p q
       → over q events ≡ shift_evaluation from by (over p events)
   results-shift d e events small ensured free (quiet {s = s} {t = t} ends states) =
       λ i. record {
@@ -159,9 +164,9 @@ module _ (set : Setting) (from by bound : ℕ) (plain : 0 < from) (room : bound 
 pub shifted_names : ShiftedNames
 unfolding eval
 shifted_names set from by d e events plain below room free =
-    let bound : ℕ = d.module_number + (set.limits.steps + set.limits.recursion) + 1 in
+    let bound : ℕ = d.module_number + (set.limits.recursion * set.limits.steps + set.limits.recursion) + 1 in
     let enough : bound + by ≤ last_number = omega (arith, room) in
-    results-shift set from by bound plain enough d e events (omega arith) (eval_pays set set.limits.recursion e (begun d)) free
+    results-shift set from by bound plain enough d e events (omega arith) (whole_pays set d e) free
     (eval_at-alike (kin set from by bound plain enough) set (related set from by bound plain enough) set.limits.recursion e (shift from by e) (begun d) (begun (shift_definitions from by d))
     (shifts from by e)
     (record { definitions = definitions-shift from by d; number = (refl, below); steps = refl; within = omega arith; used = refl }))

@@ -2,7 +2,7 @@
 --     NoneToCome            no member of a set has a number that a Module may still take
 --     SameButForNames       an evaluation that ends as another one, but for generated names
 --     CarriedOver           evaluations from definitions that agree on a closed set, but for the module number, differ in generated names alone
-use Rattle.std.specs.Prelude.{◌≡◌, ℕ, ◌+◌, ◌<◌, List, Bool, true, false}
+use Rattle.std.specs.Prelude.{◌≡◌, ℕ, ◌+◌, ◌*◌, ◌<◌, List, Bool, true, false}
 use Rattle.expr_tree.specs.declared.sym.Sym.{Sym}
 use Rattle.expr_tree.specs.Tree.{Tree}
 use Rattle.semantics.specs.Names.{IsNames}
@@ -30,5 +30,5 @@ CarriedOver =
     (set : Setting) → IsNames set.names → (C : Sym → Bool) (by : ℕ) (d c : Definitions) → IsClosed set.names d (Members C)
     → AgreeOn set.names (Members C) (with_number (d.module_number + by) d) c → NoneToCome (Members C) d → shared_below d.module_number d.shared ≡ true
     → (e : Tree) (events : List Event) → StandsIn (Members C) e → 0 < d.module_number
-    → d.module_number + by + (set.limits.steps + set.limits.recursion) < last_number → (eval set d e events).used ≡ false
+    → d.module_number + by + (set.limits.recursion * set.limits.steps + set.limits.recursion) < last_number → (eval set d e events).used ≡ false
     → SameButForNames d.module_number by events (eval set d e events) (eval set c e events)

@@ -6,12 +6,12 @@
 --     below                 whether each symbol's number is below a bound
 --     definitions_below     the same of definitions
 --     AnyModuleNumber       from a greater module number only generated names differ
-use Rattle.std.specs.Prelude.{◌≡◌, ℕ, ◌+◌, ◌≤◌, ◌<◌, List, [], ◌∷◌, map, Option, Some, None, Bool, true, false, ltb, ◌&&◌}
+use Rattle.std.specs.Prelude.{◌≡◌, ℕ, ◌+◌, ◌*◌, ◌≤◌, ◌<◌, List, [], ◌∷◌, map, Option, Some, None, Bool, true, false, ltb, ◌&&◌}
 use Rattle.expr_tree.specs.declared.sym.Sym.{Sym}
 use Rattle.expr_tree.specs.Tree.{Tree, integer, string, symbol, normal, Trees, nil, cons}
 use Rattle.semantics.specs.Rule.{Rule}
 use Rattle.semantics.specs.Definitions.{Definition, Definitions, Shared}
-use Rattle.semantics.specs.Play.{Setting, Value, last_number}
+use Rattle.semantics.specs.Play.{Setting, Value, Throwing, Thrown, last_number}
 use Rattle.semantics.specs.Eval.{Event, Outcome, Ended, Evaluation, eval}
 use Rattle.laws_relations.specs.Order.{shifted_symbol}
 
@@ -54,6 +54,8 @@ shift_definitions from by d =
 
 abbrev pub shift_outcome : ℕ → ℕ → Outcome → Outcome
 shift_outcome from by (Ended (Value v)) = Ended (Value (shift from by v))
+shift_outcome from by (Ended (Throwing v)) = Ended (Throwing (shift from by v))
+shift_outcome from by (Ended (Thrown v)) = Ended (Thrown (shift from by v))
 shift_outcome from by o = o
 
 -- the steps, `used` and the rest of the list of calls stay
@@ -72,7 +74,7 @@ shift_evaluation from by a =
 abbrev pub ShiftedNames : Type 0
 ShiftedNames =
     (set : Setting) (from by : ℕ) (d : Definitions) (e : Tree) (events : List Event) → 0 < from → from ≤ d.module_number
-    → d.module_number + by + (set.limits.steps + set.limits.recursion) < last_number → (eval set d e events).used ≡ false
+    → d.module_number + by + (set.limits.recursion * set.limits.steps + set.limits.recursion) < last_number → (eval set d e events).used ≡ false
     → eval set (shift_definitions from by d) (shift from by e) events ≡ shift_evaluation from by (eval set d e events)
 
 -- ---- where no symbol has a number that a Module may still take
@@ -125,5 +127,5 @@ abbrev pub AnyModuleNumber : Type 0
 AnyModuleNumber =
     (set : Setting) (by : ℕ) (d : Definitions) (e : Tree) (events : List Event) → 0 < d.module_number
     → definitions_below d.module_number d ≡ true → below d.module_number e ≡ true
-    → d.module_number + by + (set.limits.steps + set.limits.recursion) < last_number → (eval set d e events).used ≡ false
+    → d.module_number + by + (set.limits.recursion * set.limits.steps + set.limits.recursion) < last_number → (eval set d e events).used ≡ false
     → DiffersInNames d.module_number by (eval set d e events) (eval set (with_number (d.module_number + by) d) e events)
