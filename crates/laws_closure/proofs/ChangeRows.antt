@@ -15,7 +15,7 @@ use Rattle.semantics.specs.Rule.{Rule, replaces, is_replaced, replace_in, insert
 use Rattle.semantics.specs.Definitions.{Definition, Attributes, has, Share}
 use Rattle.semantics.specs.Program.{Prog, Done, Look, Put, Seen}
 use Rattle.semantics.specs.Assign.{Form, ToHead, ToItems, ToTag, Place, Own, Down, Up, Target, is_wrapper, inner, inner_first, add_symbol, item_symbols, all_at, at_head, is_that, tag_place, places_in, places, asked_symbols, Why, refusal, attached}
-use Rattle.semantics.specs.Changes.{see_all, is_protected, protected_in, any_shared, unless_item, noting, attach_all, attaches_shared, assign, set, set_delayed, tag_set, tag_set_delayed, holders, holds, holding, any_protected, without_left, take_away, unset_from, unset, change_own, change, old_value, new_value, plus_int, step_by, change_with, subtract_from, unless_shared_symbol, write, cleared, nothing_left, clear, clear_all, with_attributes, without_attributes, named_attributes, change_attributes, protect, attributes_row}
+use Rattle.semantics.specs.Changes.{see_all, is_protected, protected_in, any_shared, unless_item, noting, attach_all, attaches_shared, assign, set, set_delayed, tag_set, tag_set_delayed, holders, holds, holding, any_protected, without_left, take_away, unset_from, unset, renew, change_own, change, old_value, new_value, plus_int, step_by, change_with, subtract_from, unless_shared_symbol, write, cleared, nothing_left, clear, clear_all, with_attributes, without_attributes, named_attributes, change_attributes, protect, attributes_row}
 use Rattle.laws_closure.proofs.Inside.{both, Each, Opt, appended, items, symbol_in, in_order}
 use Rattle.laws_closure.proofs.Programs.{before, Realm, Has, HasAll, RuleIn, DefinedIn, SeenBoth, Both, done, ask, look, put, edit, check, moded, grows, same_world, later_in, later_defined, Later, from_later, now, branch, option_both, made}
 use Rattle.laws_closure.proofs.ControlRows.{failed_both, null_both}
@@ -263,14 +263,19 @@ module _ (R : Realm) where
           (subst (λ d. Both R w (k x.definition) (k d)) (seen.same e) (next (seen.defined e))))
       go (Some a) e = marked _ _
 
+  renew_both : Table → (w : World) (s : Sym) (v given : Tree) (d : Definition) → Member w s → Has R w v → Has R w given → DefinedIn R w d → Both R w (renew names s v given d) (renew names s v given d)
+  renew_both t w s v given d s_in v_in given_in one =
+      branch R w (is_protected d) (failed_both R w t)
+      (put t (before s_in) (record { own = v_in; downs = one.downs; ups = one.ups }) (λ u g _. done (later_in R w u g given given_in)))
+
   change_own_both : Table → (w : World) (s : Sym) (next : Tree → Tree) (gives : Tree → Tree → Tree) (d : Definition) → Member w s
       → ((u : World) → grows R w u → (v : Tree) → Has R u v → Has R u (next v)) → ((u : World) (old new : Tree) → Has R u old → Has R u new → Has R u (gives old new))
       → DefinedIn R w d → Both R w (change_own names s next gives d) (change_own names s next gives d)
   change_own_both t w s next gives d s_in next_in gives_in one =
-      branch R w (is_protected d) (failed_both R w t)
-      (option_both R w (Has R w) d.own one.own (failed_both R w t)
+      option_both R w (Has R w) d.own one.own (failed_both R w t)
       (λ old old_in. check (next_in w (same_world R w) old old_in) (ask (next_in w (same_world R w) old old_in)
-      (λ u g v v_in. edit t (g s s_in) (λ c c_in. record { own = v_in; downs = c_in.downs; ups = c_in.ups }) (done (gives_in u old v (later_in R w u g old old_in) v_in))))))
+      (λ u g v v_in. look (g s s_in) (λ x y seen. unshared_or u noting (λ p. refl) (λ p q. moded) (renew names s v (gives old v)) x y seen
+      (λ c_in. renew_both t u s v (gives old v) x.definition (g s s_in) v_in (gives_in u old v (later_in R w u g old old_in) v_in) c_in)))))
 
   pub change_both : Table → (w : World) (s : Sym) (next : Tree → Tree) (gives : Tree → Tree → Tree) → Member w s
       → ((u : World) → grows R w u → (v : Tree) → Has R u v → Has R u (next v)) → ((u : World) (old new : Tree) → Has R u old → Has R u new → Has R u (gives old new))

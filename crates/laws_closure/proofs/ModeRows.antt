@@ -8,8 +8,8 @@ use Rattle.semantics.specs.Names.{is_call, items_of}
 use Rattle.semantics.specs.Program.{Prog, Moded, Service}
 use Rattle.semantics.specs.Control.{failed}
 use Rattle.semantics.specs.Scoping.{symbols_in}
-use Rattle.semantics.specs.Sections.{section, critical_section, quit, is_option, without_option, parallel_map, parallel_combine, parallel_try, parallel_loop, outside_or_failed, wait_all, outside_only, are_symbols, is_submission, parallel_submit, of_symbols, print}
-use Rattle.laws_closure.proofs.Programs.{Realm, Both, moded, Later, now, branch}
+use Rattle.semantics.specs.Sections.{section, critical_section, quit, is_option, is_last_option, without_option, parallel_map, parallel_combine, parallel_try, parallel_loop, outside_or_failed, has_object, wait_all, outside_only, are_symbols, is_submission, parallel_submit, of_symbols, print}
+use Rattle.laws_closure.proofs.Programs.{Realm, HasAll, Both, done, moded, Later, now, branch}
 
 module _ (R : Realm) where
   open R use {names, World}
@@ -36,7 +36,7 @@ module _ (R : Realm) where
 
   pub parallel_combine_both : (w : World) (p q : Prog) (es : List Tree) → Later R w p q → Both R w (parallel_combine names p es) (parallel_combine names q es)
   parallel_combine_both w p q (f ∷ normal h es ∷ rest) next =
-      branch R w (leb (length (without_option names rest)) 1 && not (is_option names (normal h es))) moded (now R w next)
+      branch R w (leb (length (without_option names rest)) 1 && not (is_last_option names (normal h es) rest)) moded (now R w next)
   parallel_combine_both w p q _ next = now R w next
 
   pub parallel_try_both : (w : World) (p q : Prog) (es : List Tree) → Later R w p q → Both R w (parallel_try names p es) (parallel_try names q es)
@@ -45,7 +45,7 @@ module _ (R : Realm) where
 
   pub parallel_loop_both : (form sequential : Builtin) (w : World) (p q : Prog) (es : List Tree) → Later R w p q
       → Both R w (parallel_loop names form sequential p es) (parallel_loop names form sequential q es)
-  parallel_loop_both form sequential w p q (e ∷ it ∷ es) next = branch R w (is_option names it) (now R w next) moded
+  parallel_loop_both form sequential w p q (e ∷ it ∷ es) next = branch R w (is_last_option names it es) (now R w next) moded
   parallel_loop_both form sequential w p q [] next = now R w next
   parallel_loop_both form sequential w p q (e ∷ []) next = now R w next
 
@@ -53,9 +53,9 @@ module _ (R : Realm) where
   outside_or_failed_both form w p q (e ∷ []) next = moded
   outside_or_failed_both form w p q _ next = now R w next
 
-  pub wait_all_both : (w : World) (p q : Prog) (es : List Tree) → Later R w p q → Both R w (wait_all names p es) (wait_all names q es)
-  wait_all_both w p q (e ∷ []) next = moded
-  wait_all_both w p q _ next = now R w next
+  pub wait_all_both : (w : World) (p q : Prog) (es : List Tree) → Later R w p q → HasAll R w es → Both R w (wait_all names p es) (wait_all names q es)
+  wait_all_both w p q (e ∷ []) next all = branch R w (has_object names e) moded (done all.0)
+  wait_all_both w p q _ next all = now R w next
 
   outside_only_both : (form : Builtin) (b : Bool) (w : World) (p q : Prog) (es : List Tree) → Later R w p q → Both R w (outside_only names form b p es) (outside_only names form b q es)
   outside_only_both form false w p q es next = now R w next

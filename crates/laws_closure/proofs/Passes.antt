@@ -33,20 +33,20 @@ module _ (R : Realm) where
       go None e = subst (λ d. Both R w (k x.definition) (l d)) (seen.same e) (next (seen.defined e))
       go (Some a) e = moded
 
-  pub access_marked_both : (w : World) (kind : Share) (e : Tree) (k l : Definition → Prog) (x y : Seen) → SeenBoth R w x y
+  pub access_marked_both : (w : World) (kind : Share) (e : Tree) (p q : Prog) (k l : Definition → Prog) (x y : Seen) → SeenBoth R w x y
       → (DefinedIn R w x.definition → Both R w (k x.definition) (l x.definition))
-      → Both R w (access_or x.shared kind e (marked x.shared (k x.definition))) (access_or y.shared kind e (marked y.shared (l y.definition)))
-  access_marked_both w kind e k l x y seen next =
-      subst (λ o. Both R w (access_or x.shared kind e (marked x.shared (k x.definition))) (access_or o kind e (marked o (l y.definition)))) seen.shared (go x.shared refl)
+      → Both R w (access_or x.shared kind e p (marked x.shared (k x.definition))) (access_or y.shared kind e q (marked y.shared (l y.definition)))
+  access_marked_both w kind e p q k l x y seen next =
+      subst (λ o. Both R w (access_or x.shared kind e p (marked x.shared (k x.definition))) (access_or o kind e q (marked o (l y.definition)))) seen.shared (go x.shared refl)
     where
-      go : (o : Option Share) → x.shared ≡ o → Both R w (access_or o kind e (marked o (k x.definition))) (access_or o kind e (marked o (l y.definition)))
+      go : (o : Option Share) → x.shared ≡ o → Both R w (access_or o kind e p (marked o (k x.definition))) (access_or o kind e q (marked o (l y.definition)))
       go None e = subst (λ d. Both R w (k x.definition) (l d)) (seen.same e) (next (seen.defined e))
       go (Some a) e = branch R w (same_share a kind) moded moded
 
-  access_both : (w : World) (a b : Option Share) (kind : Share) (e : Tree) {p q : Prog} → a ≡ b → Both R w p q → Both R w (access_or a kind e p) (access_or b kind e q)
-  access_both w a b kind e {p} {q} same next = subst (λ o. Both R w (access_or a kind e p) (access_or o kind e q)) same (go a)
+  access_both : (w : World) (a b : Option Share) (kind : Share) (e : Tree) (r s : Prog) {p q : Prog} → a ≡ b → Both R w p q → Both R w (access_or a kind e r p) (access_or b kind e s q)
+  access_both w a b kind e r s {p} {q} same next = subst (λ o. Both R w (access_or a kind e r p) (access_or o kind e s q)) same (go a)
     where
-      go : (o : Option Share) → Both R w (access_or o kind e p) (access_or o kind e q)
+      go : (o : Option Share) → Both R w (access_or o kind e r p) (access_or o kind e s q)
       go None = next
       go (Some k) = branch R w (same_share k kind) moded next
 
@@ -60,10 +60,10 @@ module _ (R : Realm) where
   accessed_in w h (normal (string t) as' ∷ es) all = tt
   accessed_in w h (normal (normal g bs) as' ∷ es) all = tt
 
-  pub unless_access_both : (w : World) (h : Tree) (es : List Tree) (e : Tree) (p q : Prog) → HasAll R w es → Both R w p q → Both R w (unless_access names h es e p) (unless_access names h es e q)
-  unless_access_both w h es e p q all next =
+  pub unless_access_both : (w : World) (h : Tree) (es : List Tree) (e : Tree) (r s p q : Prog) → HasAll R w es → Both R w p q → Both R w (unless_access names h es e r p) (unless_access names h es e s q)
+  unless_access_both w h es e r s p q all next =
       option_both R w (λ a. Member w a.0) (accessed names h es) (accessed_in w h es all) next
-      (λ a a_in. look a_in (λ x y seen. access_both w x.shared y.shared a.1 e seen.shared next))
+      (λ a a_in. look a_in (λ x y seen. access_both w x.shared y.shared a.1 e r s seen.shared next))
 
   -- ---- rules and rows
 
@@ -82,7 +82,7 @@ module _ (R : Realm) where
   row_or_stay_both : ((x : World) → R.Numbered x) → (w : World) (o : Option Builtin) (s : Sym) (es : List Tree) (e : Tree) (p q : Prog) → Opt (λ r. Table) o → HasAll R w es → Later R w p q
       → Both R w (row_or_stay names o s es e p) (row_or_stay names o s es e q)
   row_or_stay_both may w None s es e p q t all next = now R w next
-  row_or_stay_both may w (Some r) s es e p q t all next = unless_access_both w (symbol s) es e _ _ all (row_both R t w r (λ is. may w) p q es next all)
+  row_or_stay_both may w (Some r) s es e p q t all next = unless_access_both w (symbol s) es e _ _ _ _ all (row_both R t w r (λ is. may w) p q es next all)
 
   role_in : (w : World) (s : Sym) → Member w s → Opt (λ r. Table) (role_of names s)
   role_in w s one = go (role_of names s) refl
@@ -97,7 +97,7 @@ module _ (R : Realm) where
   pub down_rules_both : ((x : World) → R.Numbered x) → (w : World) (h : Tree) (es : List Tree) (e : Tree) (p q : Prog) → Has R w h → HasAll R w es → Has R w e → Later R w p q
       → Both R w (down_rules names h es e p) (down_rules names h es e q)
   down_rules_both may w (symbol s) es e p q one all e_in next =
-      look one (λ x y seen. access_marked_both w Function e (λ d. try_rules names d.downs e Done (built_in names s es e p)) (λ d. try_rules names d.downs e Done (built_in names s es e q)) x y seen
+      look one (λ x y seen. access_marked_both w Function e _ _ (λ d. try_rules names d.downs e Done (built_in names s es e p)) (λ d. try_rules names d.downs e Done (built_in names s es e q)) x y seen
       (λ defined. try_rules_both R w x.definition.downs e Done Done _ _ defined.downs e_in (itself R w)
       (λ u g. built_in_both may u s es e p q (g s one) (later_all R w u g es all) (from_later R w u g next))))
   down_rules_both may w (normal h fs) es e p q one all e_in next =
@@ -140,7 +140,7 @@ module _ (R : Realm) where
 
   pub symbol_pass_both : (w : World) (s : Sym) → Member w s → Both R w (symbol_pass names s) (symbol_pass names s)
   symbol_pass_both w s one =
-      look one (λ x y seen. access_marked_both w Variable (symbol s) (λ d. elim (d.own) [ None ↦ symbol_row names s | Some v ↦ Done v ])
+      look one (λ x y seen. access_marked_both w Variable (symbol s) _ _ (λ d. elim (d.own) [ None ↦ symbol_row names s | Some v ↦ Done v ])
       (λ d. elim (d.own) [ None ↦ symbol_row names s | Some v ↦ Done v ]) x y seen (λ defined. own_in w s x.definition one defined))
 
   -- one pass on an expression of the set

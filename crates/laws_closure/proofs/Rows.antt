@@ -165,7 +165,7 @@ module _ (R : Realm) where
   row_both t w Builtin.ParallelCombine may p q es next all = Mode.parallel_combine_both R w p q es next
   row_both t w Builtin.ParallelTry may p q es next all = Mode.parallel_try_both R w p q es next
   row_both t w Builtin.WaitNext may p q es next all = Mode.outside_or_failed_both R Builtin.WaitNext w p q es next
-  row_both t w Builtin.WaitAll may p q es next all = Mode.wait_all_both R w p q es next
+  row_both t w Builtin.WaitAll may p q es next all = Mode.wait_all_both R w p q es next all
   row_both t w Builtin.CriticalSection may p q es next all = Mode.critical_section_both R w p q es next
   row_both t w Builtin.Quit may p q es next all = Mode.quit_both R w p q es next
   row_both t w Builtin.ParallelMap may p q es next all = Mode.parallel_map_both R w p q es next

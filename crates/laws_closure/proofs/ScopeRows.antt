@@ -7,7 +7,7 @@ use Rattle.expr_tree.specs.Order.{same}
 use Rattle.semantics.specs.declared.builtin.Builtin.{Builtin}
 use Rattle.semantics.specs.Names.{is_call, items_of, truth}
 use Rattle.expr_tree.specs.Substitution.{Binding}
-use Rattle.semantics.specs.InPlace.{put_in_place, nth, slot_number, filled, slot_value, is_slot, is_pure_function, fill_slots, fill_in_items}
+use Rattle.semantics.specs.InPlace.{put_in_place, nth, filled, slot_of, is_pure_function, fill_slots, fill_in_items}
 use Rattle.semantics.specs.Rule.{Rule}
 use Rattle.semantics.specs.Program.{Prog, Done, Local}
 use Rattle.semantics.specs.Scoping.{plain_local, valued_local, local_of, locals_of, symbols_of, differ, ask_values, with_locals, renamed, renaming, with_number, make_all, module_form, unless_any_shared, block_form, values_in, with_form, paired, parameters, put_arguments, apply_function}
@@ -151,11 +151,12 @@ module _ (R : Realm) where
       (perhaps (Has R w) (Has R w) (nth args (suc n)) (nth_in w args (suc n) all) one (λ x x_in. x_in))
       (both (Has R w) (ltb n (length args)) (one_in (Member w) names Table (knows w) (tabled w) t (drop n args) (dropped (Has R w) n args all)) one)
 
-  slot_in : Table → (w : World) (args : List Tree) (e : Tree) → HasAll R w args → Has R w e → Has R w (slot_value names args e)
-  slot_in t w args e all one = go (slot_number (items_of e))
+  slot_in : Table → (w : World) (args : List Tree) (e entered : Tree) → HasAll R w args → Has R w e → Has R w entered
+      → Has R w (elim (slot_of names e) [ Some n ↦ filled names args e n | None ↦ entered ])
+  slot_in t w args e entered all one other = go (slot_of names e)
     where
-      go : (o : Option ℕ) → Has R w (elim o [ None ↦ e | Some n ↦ filled names args e n ])
-      go None = one
+      go : (o : Option ℕ) → Has R w (elim o [ Some n ↦ filled names args e n | None ↦ entered ])
+      go None = other
       go (Some n) = filled_in t w args e n all one
 
   mutual
@@ -164,7 +165,7 @@ module _ (R : Realm) where
     fill_slots_in t w args (string u) all one = tt
     fill_slots_in t w args (symbol s) all one = one
     fill_slots_in t w args (normal h es) all one =
-        both (Has R w) (is_slot names (normal h es)) (slot_in t w args (normal h es) all one)
+        slot_in t w args (normal h es) _ all one
         (both (Has R w) (is_pure_function names h es) one (fill_slots_in t w args h all one.0, fill_in_items_in t w args es all one.1))
 
     fill_in_items_in : Table → (w : World) (args : List Tree) (es : Trees) → HasAll R w args → Ins (Member w) es → Ins (Member w) (fill_in_items names args es)
@@ -237,7 +238,8 @@ module _ (R : Realm) where
   rounds_both : (n : ℕ) (w : World) (rs : List Rule) (e : Tree) → Each (RuleIn R w) rs → Has R w e → Both R w (rounds names rs n e) (rounds names rs n e)
   rounds_both zero w rs e all one = turn (replaced_both w rs e _ _ all one (λ u g f f_in. check f_in (branch R u (same f e) (done f_in) stop)))
   rounds_both (suc n) w rs e all one =
-      turn (replaced_both w rs e _ _ all one (λ u g f f_in. check f_in (branch R u (same f e) (done f_in) (rounds_both n u rs f (later_rules R w u g rs all) f_in))))
+      turn (replaced_both w rs e _ _ all one (λ u g f f_in. check f_in (branch R u (same f e) (done f_in)
+      (ask f_in (λ v h x x_in. rounds_both n v rs x (later_rules R u v h rs (later_rules R w u g rs all)) x_in)))))
 
   pub replace_repeated_both : (w : World) (p q : Prog) (es : List Tree) → Later R w p q → HasAll R w es → Both R w (replace_repeated names p es) (replace_repeated names q es)
   replace_repeated_both w p q (e ∷ r ∷ []) next all =

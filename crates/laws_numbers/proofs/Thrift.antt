@@ -100,16 +100,16 @@ module _ (names : Names) (N : ℕ) where
   marked_thrifty c None p next = next
   marked_thrifty c (Some k) p next = moded
 
-  access_thrifty : (c : Bool) (o : Option Share) (kind : Share) (e : Tree) (p : Prog) → Thrifty c p → Thrifty c (access_or o kind e p)
-  access_thrifty c None kind e p next = next
-  access_thrifty c (Some k) kind e p next = branch c (same_share k kind) moded next
+  access_thrifty : (c : Bool) (o : Option Share) (kind : Share) (e : Tree) (r p : Prog) → Thrifty c p → Thrifty c (access_or o kind e r p)
+  access_thrifty c None kind e r p next = next
+  access_thrifty c (Some k) kind e r p next = branch c (same_share k kind) moded next
 
-  unless_access_thrifty : (c : Bool) (h : Tree) (es : List Tree) (e : Tree) (p : Prog) → Thrifty c p → Thrifty c (unless_access names h es e p)
-  unless_access_thrifty c h es e p next = go (accessed names h es)
+  unless_access_thrifty : (c : Bool) (h : Tree) (es : List Tree) (e : Tree) (r p : Prog) → Thrifty c p → Thrifty c (unless_access names h es e r p)
+  unless_access_thrifty c h es e r p next = go (accessed names h es)
     where
-      go : (o : Option (Sym × Share)) → Thrifty c (elim o [ None ↦ p | Some a ↦ Look a.0 (λ seen. access_or seen.shared a.1 e p) ])
+      go : (o : Option (Sym × Share)) → Thrifty c (elim o [ None ↦ p | Some a ↦ Look a.0 (λ seen. access_or seen.shared a.1 e r p) ])
       go None = next
-      go (Some a) = look (λ x. access_thrifty c x.shared a.1 e p next)
+      go (Some a) = look (λ x. access_thrifty c x.shared a.1 e r p next)
 
   -- ---- Module
 
@@ -158,7 +158,7 @@ module _ (names : Names) (N : ℕ) where
     where
       go : (o : Option Builtin) → Thrifty c (row_or_stay names o s es e (Done x))
       go None = gives c x
-      go (Some r) = unless_access_thrifty c (symbol s) es e (row names r (Done x) es) (row_thrifty c r x es all)
+      go (Some r) = unless_access_thrifty c (symbol s) es e (Done x) (row names r (Done x) es) (row_thrifty c r x es all)
 
   -- ---- the later steps
 
@@ -172,7 +172,7 @@ module _ (names : Names) (N : ℕ) where
 
   down_rules_thrifty : (c : Bool) (h : Tree) (es : List Tree) (e x : Tree) → AllAllowed c es → Thrifty c (down_rules names h es e (Done x))
   down_rules_thrifty c (symbol s) es e x all =
-      look (λ y. access_thrifty c y.shared Function e _ (marked_thrifty c y.shared _ (rules_thrifty c y.definition.downs e _ (built_in_thrifty c s es e x all))))
+      look (λ y. access_thrifty c y.shared Function e _ _ (marked_thrifty c y.shared _ (rules_thrifty c y.definition.downs e _ (built_in_thrifty c s es e x all))))
   down_rules_thrifty c (normal h fs) es e x all =
       branch c (is_name names Builtin.Function h)
       (calmly (apply_function_both (calm names) tt tt (Done x) (Done x) (elements fs) es (λ u g. done (anything x)) (all_of (elements fs)) (all_of es))) (gives c x)

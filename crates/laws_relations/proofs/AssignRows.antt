@@ -1,18 +1,17 @@
 -- What assignments are attached to, and the rules of a definition with one more or one less.
 use Rattle.std.proofs.Common.{◌≡◌, refl, subst, ◌+◌, Bool, true, false, not, List, [], ◌∷◌, Option, Some, None}
-use Rattle.std.specs.Prelude.{◌&&◌, ◌||◌, ◌-◌}
+use Rattle.std.specs.Prelude.{◌&&◌, ◌||◌, ◌-◌, ◌==◌, leb}
 use Rattle.std.specs.declared.cmp.Ordering.{Ordering}
 use Rattle.std.specs.declared.cmp.Ordering.TheVariants.{Less, Equal, Greater}
 use Rattle.expr_tree.specs.declared.sym.Sym.{Sym}
 use Rattle.expr_tree.specs.Tree.{Tree, normal, Trees}
 use Rattle.expr_tree.specs.Order.{text_cmp}
 use Rattle.semantics.specs.declared.builtin.Builtin.{Builtin}
-use Rattle.semantics.specs.Names.{is_name}
-use Rattle.semantics.specs.Rule.{Rule, occurrences, occurrences_in, is_untyped, is_typed, key_of, same_condition, replaces, is_replaced, replace_in, insert_in, insert, remove, has_left}
+use Rattle.semantics.specs.Rule.{Rule, occurrences, occurrences_in, is_untyped, is_typed, is_run, is_guarded, key_of, same_condition, replaces, is_replaced, replace_in, insert_in, insert, remove, has_left}
 use Rattle.semantics.specs.Definitions.{Definition}
-use Rattle.semantics.specs.Assign.{Form, ToHead, ToItems, ToTag, Place, Own, Down, Up, Target, Why, NoTag, is_wrapper, inner, inner_first, add_symbol, item_symbols, all_at, at_head, is_that, tag_place, places_in, places, asked_symbols, is_normal, is_nested, has_wrapping, has_no_symbol, first_protected, refusal, attached}
+use Rattle.semantics.specs.Assign.{Form, ToHead, ToItems, ToTag, Place, Own, Down, Up, Target, Why, NoTag, is_wrapper, inner, inner_first, add_symbol, item_symbols, symbols_at, all_at, at_head, is_that, tag_place, places_in, places, asked_symbols, is_normal, is_nested, has_wrapping, has_no_symbol, first_protected, refusal, attached}
 use Rattle.laws_relations.proofs.Relate.{Opt, none, some, All, all_nil, all_cons, branch, case, append2, length2}
-use Rattle.laws_relations.proofs.Relation.{int, str, sym, node, Likes, ends, mores, LikeRule, symbol-like, items-like, same-like, is_name-like, is_call-like, same_symbol-like}
+use Rattle.laws_relations.proofs.Relation.{int, str, sym, node, Likes, ends, mores, LikeRule, symbol-like, items-like, count-like, same-like, is_name-like, is_call-like, same_symbol-like}
 use Rattle.laws_relations.proofs.PutInPlace.{among-like}
 use Rattle.laws_relations.proofs.Programs.{condition_of-like}
 use Rattle.laws_relations.proofs.Kin.{Kin, LikeTree, LikeTrees, LikeSymbols, LikeDefined, LikeRules}
@@ -118,9 +117,12 @@ module _ (K : Kin) where
   no_target all_nil = refl
   no_target (all_cons t l) = refl
 
-  no_symbol : {o p : Option Sym} → Opt K.Symbols o p → ◌≡◌ {A = Bool} (elim o [ None ↦ true | Some s ↦ false ]) (elim p [ None ↦ true | Some s ↦ false ])
-  no_symbol none = refl
-  no_symbol (some s) = refl
+  pub symbols_at-like : {e f : Tree} → LikeTree K e f → LikeSymbols K (symbols_at e) (symbols_at f)
+  symbols_at-like e = item_symbols-like (items-like K.Symbols e) (add_symbol-like (symbol-like K.Symbols e) all_nil)
+
+  no_symbol : {ss ts : List Sym} → LikeSymbols K ss ts → ◌≡◌ {A = Bool} (elim ss [ [] ↦ true | _ ↦ false ]) (elim ts [ [] ↦ true | _ ↦ false ])
+  no_symbol all_nil = refl
+  no_symbol (all_cons s l) = refl
 
   has_no_symbol-like : {a b : Form} {e f : Tree} → LikeForm a b → LikeTree K e f → has_no_symbol names a e ≡ has_no_symbol names b f
   has_no_symbol-like to_head e =
@@ -128,7 +130,7 @@ module _ (K : Kin) where
   has_no_symbol-like to_items e =
       branch (◌≡◌ {A = Bool}) (λ i. has_wrapping-like e i && not (is_normal-like (inner-like e) i)) refl (no_target (places-like to_items e))
   has_no_symbol-like (to_tag s) e =
-      branch (◌≡◌ {A = Bool}) (λ i. has_wrapping-like e i && not (is_normal-like (inner-like e) i)) refl (no_symbol (symbol-like K.Symbols (inner-like e)))
+      branch (◌≡◌ {A = Bool}) (λ i. has_wrapping-like e i && not (is_normal-like (inner-like e) i)) refl (no_symbol (symbols_at-like (inner-like e)))
 
   -- what two tests tell of related symbols is the same
   abbrev pub SameTest : (Sym → Bool) → (Sym → Bool) → Type 0
@@ -168,25 +170,23 @@ module _ (K : Kin) where
     occurrences_in-like test same (mores e es) = λ i. occurrences-like test same e i + occurrences_in-like test same es i
 
   untyped-like : {h g : Tree} {es fs : Trees} → LikeTree K h g → Likes K.Symbols es fs → is_untyped names h es ≡ is_untyped names g fs
-  untyped-like h ends = is_name-like K.Symbols names K.faithful Builtin.Blank h
-  untyped-like h (mores e es) = refl
+  untyped-like h es = λ i. is_name-like K.Symbols names K.faithful Builtin.Blank h i && (count-like K.Symbols es i == 0)
 
   typed-like : {h g : Tree} {es fs : Trees} → LikeTree K h g → Likes K.Symbols es fs → is_typed names h es ≡ is_typed names g fs
-  typed-like h ends = refl
-  typed-like h (mores e es) = is_name-like K.Symbols names K.faithful Builtin.Blank h
+  typed-like h es = λ i. is_name-like K.Symbols names K.faithful Builtin.Blank h i && (count-like K.Symbols es i == 1)
 
-  named : (row : Builtin) {e f : Tree} → LikeTree K e f → occurrences (λ h es. is_name names row h) e ≡ occurrences (λ h es. is_name names row h) f
-  named row e = occurrences-like (λ h es. is_name names row h) (λ h g es fs one all. is_name-like K.Symbols names K.faithful row one) e
+  runs : (row : Builtin) {e f : Tree} → LikeTree K e f → occurrences (is_run names row) e ≡ occurrences (is_run names row) f
+  runs row e = occurrences-like (is_run names row) (λ h g es fs one all i. is_name-like K.Symbols names K.faithful row one i && leb (count-like K.Symbols all i) 1) e
 
-  conditions : {e f : Tree} → LikeTree K e f
-      → occurrences (λ h es. is_name names Builtin.Condition h || is_name names Builtin.PatternTest h) e ≡ occurrences (λ h es. is_name names Builtin.Condition h || is_name names Builtin.PatternTest h) f
+  conditions : {e f : Tree} → LikeTree K e f → occurrences (is_guarded names) e ≡ occurrences (is_guarded names) f
   conditions e =
-      occurrences-like (λ h es. is_name names Builtin.Condition h || is_name names Builtin.PatternTest h)
-      (λ h g es fs one all i. is_name-like K.Symbols names K.faithful Builtin.Condition one i || is_name-like K.Symbols names K.faithful Builtin.PatternTest one i) e
+      occurrences-like (is_guarded names)
+      (λ h g es fs one all i.
+      (is_name-like K.Symbols names K.faithful Builtin.Condition one i || is_name-like K.Symbols names K.faithful Builtin.PatternTest one i) && (count-like K.Symbols all i == 2)) e
 
   key_of-like : {r q : Rule} → LikeRule K.Symbols r q → key_of names r ≡ key_of names q
   key_of-like one =
-      λ i. named Builtin.BlankNullSequence one.left i ∷ named Builtin.BlankSequence one.left i ∷ occurrences-like (is_untyped names) (λ h g es fs a b. untyped-like a b) one.left i
+      λ i. runs Builtin.BlankNullSequence one.left i ∷ runs Builtin.BlankSequence one.left i ∷ occurrences-like (is_untyped names) (λ h g es fs a b. untyped-like a b) one.left i
       ∷ occurrences-like (is_typed names) (λ h g es fs a b. typed-like a b) one.left i ∷ (1000 - (conditions one.left i + length2 (condition_of-like K one.right) i)) ∷ []
 
   same_condition-like : {as' bs cs ds : List Tree} → LikeTrees K as' bs → LikeTrees K cs ds → same_condition as' cs ≡ same_condition bs ds

@@ -9,15 +9,15 @@ use Rattle.semantics.specs.Definitions.{Definition, Attributes, has}
 use Rattle.semantics.specs.Program.{Prog, Seen}
 use Rattle.semantics.specs.Control.{failed, null}
 use Rattle.semantics.specs.Assign.{Form, Target}
-use Rattle.semantics.specs.Changes.{see_all, is_protected, protected_in, any_shared, unless_item, noting, attach_all, attaches_shared, assign, set, set_delayed, tag_set, tag_set_delayed, holders, holds, holding, any_protected, without_left, take_away, unset_from, unset, change_own, change, old_value, new_value, plus_int, step_by, change_with, subtract_from, unless_shared_symbol, write, cleared, nothing_left, clear, clear_all, all_attributes, those, with_attributes, without_attributes, attribute_name, attribute_names, named_attributes, change_attributes, protect, attributes_row}
+use Rattle.semantics.specs.Changes.{see_all, is_protected, protected_in, any_shared, unless_item, noting, attach_all, attaches_shared, assign, set, set_delayed, tag_set, tag_set_delayed, holders, holds, holding, any_protected, without_left, take_away, unset_from, unset, renew, change_own, change, old_value, new_value, plus_int, step_by, change_with, subtract_from, unless_shared_symbol, write, cleared, nothing_left, clear, clear_all, all_attributes, those, with_attributes, without_attributes, attribute_name, attribute_names, named_attributes, change_attributes, protect, attributes_row}
 use Rattle.laws_relations.proofs.Relate.{Opt, none, some, All, all_nil, all_cons, branch, case}
 use Rattle.laws_relations.proofs.Listed.{same_case}
-use Rattle.laws_relations.proofs.Relation.{int, str, sym, node, symbol-like, items-like, is_call-like, make-like, name-like, ordered-like, same_symbol-like}
+use Rattle.laws_relations.proofs.Relation.{int, str, sym, node, items-like, is_call-like, make-like, name-like, ordered-like, same_symbol-like}
 use Rattle.laws_relations.proofs.FirstSteps.{left_side-both}
 use Rattle.laws_relations.proofs.Kin.{Kin, LikeTree, LikeTrees, LikeSymbols, LikeDefined}
 use Rattle.laws_relations.proofs.Simulation.{Both, ask, done, look, put, check, moded}
 use Rattle.laws_relations.proofs.Programs.{name-both}
-use Rattle.laws_relations.proofs.AssignRows.{inner-like, add_symbol-like, item_symbols-like, target, LikeForm, to_tag, Targets, places-like, asked_symbols-like, refusal-like, remove-like, has_left-like, attached-like}
+use Rattle.laws_relations.proofs.AssignRows.{inner-like, symbols_at-like, target, LikeForm, to_tag, Targets, places-like, asked_symbols-like, refusal-like, remove-like, has_left-like, attached-like}
 
 module _ (K : Kin) where
   open K use {names}
@@ -111,7 +111,7 @@ module _ (K : Kin) where
   -- ---- Unset
 
   holders-like : {e f : Tree} → LikeTree K e f → LikeSymbols K (holders names e) (holders names f)
-  holders-like e = item_symbols-like K (items-like K.Symbols (inner-like K e)) (add_symbol-like K (symbol-like K.Symbols (inner-like K e)) all_nil)
+  holders-like e = symbols_at-like K (inner-like K e)
 
   has_value-like : {o p : Option Tree} → Opt (LikeTree K) o p → is_some o ≡ is_some p
   has_value-like none = refl
@@ -154,12 +154,15 @@ module _ (K : Kin) where
   abbrev pub Chooser : (Tree → Tree → Tree) → Type 0
   Chooser f = (a b c d : Tree) → LikeTree K a b → LikeTree K c d → LikeTree K (f a c) (f b d)
 
+  renew-both : {s t : Sym} {v x g h : Tree} {d c : Definition} → K.Symbols s t → LikeTree K v x → LikeTree K g h → LikeDefined K d c → Both K (renew names s v g d) (renew names t x h c)
+  renew-both s value given d =
+      branch (Both K) (protected-like d) failed-both (put s (record { attributes = d.attributes; own = some value; downs = d.downs; ups = d.ups }) (done given))
+
   change_own-both : {s t : Sym} (f g : Tree → Tree) (gives : Tree → Tree → Tree) {d c : Definition} → K.Symbols s t → Maker f g → Chooser gives → LikeDefined K d c
       → Both K (change_own names s f gives d) (change_own names t g gives c)
   change_own-both f g gives s makes chooses d =
-      branch (Both K) (protected-like d) failed-both
-      (case (Both K) d.own failed-both (λ old old' same. check (makes _ _ same) (ask (makes _ _ same) (λ v x value.
-      look s (λ y z defined shared. put s (record { attributes = defined.attributes; own = some value; downs = defined.downs; ups = defined.ups }) (done (chooses _ _ _ _ same value)))))))
+      case (Both K) d.own failed-both (λ old old' same. check (makes _ _ same) (ask (makes _ _ same) (λ v x value.
+      look s (λ y z defined shared. noting-both (ap is_some shared) (renew-both s value (chooses _ _ _ _ same value) defined)))))
 
   change-both : {s t : Sym} (f g : Tree → Tree) (gives : Tree → Tree → Tree) → K.Symbols s t → Maker f g → Chooser gives → Both K (change names s f gives) (change names t g gives)
   change-both f g gives s makes chooses = look s (λ x y defined shared. unless_item-both (ap is_some shared) (change_own-both f g gives s makes chooses defined))

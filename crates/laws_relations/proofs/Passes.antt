@@ -31,10 +31,10 @@ module _ (K : Kin) where
       go None = both
       go (Some kind) = moded
 
-  access_or-both : (a b : Option Share) (kind : Share) (e f : Tree) {p q : Prog} → a ≡ b → Both K p q → Both K (access_or a kind e p) (access_or b kind f q)
-  access_or-both a b kind e f {p = p} {q = q} same both = subst (λ o. Both K (access_or a kind e p) (access_or o kind f q)) same (go a)
+  access_or-both : (a b : Option Share) (kind : Share) (e f : Tree) (r s : Prog) {p q : Prog} → a ≡ b → Both K p q → Both K (access_or a kind e r p) (access_or b kind f s q)
+  access_or-both a b kind e f r s {p = p} {q = q} same both = subst (λ o. Both K (access_or a kind e r p) (access_or o kind f s q)) same (go a)
     where
-      go : (o : Option Share) → Both K (access_or o kind e p) (access_or o kind f q)
+      go : (o : Option Share) → Both K (access_or o kind e r p) (access_or o kind f s q)
       go None = both
       go (Some k) = branch (Both K) refl moded both
 
@@ -57,11 +57,12 @@ module _ (K : Kin) where
   accessed-like h (all_cons (node (sym f) as') es) = branch (Opt Uses) (changes-like h).0 (some (f, refl)) none
   accessed-like h _ = none
 
-  unless_access-both : (e f : Tree) {h g : Tree} {es fs : List Tree} {p q : Prog} → LikeTree K h g → LikeTrees K es fs → Both K p q → Both K (unless_access names h es e p) (unless_access names g fs f q)
-  unless_access-both e f {p = p} {q = q} h l both =
+  unless_access-both : (e f : Tree) (r s : Prog) {h g : Tree} {es fs : List Tree} {p q : Prog} → LikeTree K h g → LikeTrees K es fs → Both K p q
+      → Both K (unless_access names h es e r p) (unless_access names g fs f s q)
+  unless_access-both e f r s {p = p} {q = q} h l both =
       case (Both K) (accessed-like h l) both
       (λ a b uses. look uses.0 (λ x y defined shared.
-      subst (λ kind. Both K (access_or x.shared a.1 e p) (access_or y.shared kind f q)) uses.1 (access_or-both x.shared y.shared a.1 e f shared both)))
+      subst (λ kind. Both K (access_or x.shared a.1 e r p) (access_or y.shared kind f s q)) uses.1 (access_or-both x.shared y.shared a.1 e f r s shared both)))
 
   -- ---- rules and rows
 
@@ -78,7 +79,7 @@ module _ (K : Kin) where
 
   row_or_stay-both : (o : Option Builtin) (e f : Tree) {s t : Sym} {es fs : List Tree} {p q : Prog} → K.Symbols s t → LikeTrees K es fs → Both K p q → Both K (row_or_stay names o s es e p) (row_or_stay names o t fs f q)
   row_or_stay-both None e f s l both = both
-  row_or_stay-both (Some r) e f s l both = unless_access-both e f (sym s) l (row-both K r both l)
+  row_or_stay-both (Some r) e f s l both = unless_access-both e f _ _ (sym s) l (row-both K r both l)
 
   built_in-both : {s t : Sym} {es fs : List Tree} (e f : Tree) {p q : Prog} → K.Symbols s t → LikeTrees K es fs → Both K p q → Both K (built_in names s es e p) (built_in names t fs f q)
   built_in-both {s = s} {t = t} {es = es} {fs = fs} e f {p = p} {q = q} one l both =
@@ -86,7 +87,7 @@ module _ (K : Kin) where
 
   down_rules-both : {h g : Tree} {es fs : List Tree} {e f : Tree} {p q : Prog} → LikeTree K h g → LikeTrees K es fs → LikeTree K e f → Both K p q → Both K (down_rules names h es e p) (down_rules names g fs f q)
   down_rules-both (sym s) l e both =
-      look s (λ a b defined shared. access_or-both a.shared b.shared Function _ _ shared (marked-both a.shared b.shared shared
+      look s (λ a b defined shared. access_or-both a.shared b.shared Function _ _ _ _ shared (marked-both a.shared b.shared shared
       (try_rules-both K Done Done defined.downs e gives_itself (built_in-both _ _ s l both))))
   down_rules-both (node h ps) l e both = by_name-both K Builtin.Function h (apply_function-both K both (listed-like K.Symbols ps) l) both
   down_rules-both int l e both = both
@@ -115,7 +116,7 @@ module _ (K : Kin) where
 
   symbol_pass-both : {s t : Sym} → K.Symbols s t → Both K (symbol_pass names s) (symbol_pass names t)
   symbol_pass-both s =
-      look s (λ x y defined shared. access_or-both x.shared y.shared Variable _ _ shared (marked-both x.shared y.shared shared (own_value-both x y s defined)))
+      look s (λ x y defined shared. access_or-both x.shared y.shared Variable _ _ _ _ shared (marked-both x.shared y.shared shared (own_value-both x y s defined)))
 
   pub pass-both : (e f : Tree) → LikeTree K e f → Both K (pass names e) (pass names f)
   pass-both _ _ int = done int

@@ -1,14 +1,14 @@
 -- Related runs put in place in related expressions give related ones.
-use Rattle.std.proofs.Common.{◌≡◌, refl, subst, Bool, true, false, List, Option}
-use Rattle.std.specs.Prelude.{if◌then◌else◌}
+use Rattle.std.proofs.Common.{◌≡◌, refl, subst, Bool, true, false, List, [], Option}
+use Rattle.std.specs.Prelude.{unwrap_or, if◌then◌else◌}
 use Rattle.expr_tree.specs.declared.sym.Sym.{Sym}
 use Rattle.expr_tree.specs.Tree.{Tree, Trees}
 use Rattle.expr_tree.specs.Shapes.{pair_of, pair_under, elements_under}
-use Rattle.expr_tree.specs.Substitution.{Binding, value_of, among, symbol_in, bound_symbol, bound_symbols, bound_locals, bound_parameters, bound_in, without, value_or_symbol, put_in_items}
+use Rattle.expr_tree.specs.Substitution.{Binding, value_of, among, symbol_in, plain_symbol, valued_symbol, local_symbol, symbols_by, bound_by, bound_locals, bound_parameters, bound_in, without, value_or_symbol, put_in_items}
 use Rattle.semantics.specs.declared.builtin.Builtin.{Builtin}
 use Rattle.semantics.specs.Names.{Names, known}
 use Rattle.semantics.specs.InPlace.{binders, as_one, put_in_place}
-use Rattle.laws_relations.proofs.Relate.{Opt, none, some, All, all_nil, all_cons, case, append2}
+use Rattle.laws_relations.proofs.Relate.{Opt, none, some, All, all_nil, all_cons, case}
 use Rattle.laws_relations.proofs.Relation.{Like, int, str, sym, node, Likes, ends, mores, LikeList, LikeBound, Faithful, listed-like, same_symbol-like, make-like}
 
 module _ (S : Sym → Sym → Type 0) (names : Names) (F : Faithful S names) where
@@ -47,29 +47,49 @@ module _ (S : Sym → Sym → Type 0) (names : Names) (F : Faithful S names) whe
   elements_under-like row (node (sym s) es) = either (Opt (LikeList S)) (same_symbol-like S names F s (F.knows row)) (some (listed-like S es)) none
   elements_under-like row _ = none
 
-  bound_symbol-like : {e f : Tree} → Like S e f → All S (bound_symbol (binders names) e) (bound_symbol (binders names) f)
-  bound_symbol-like e = case (All S) (pair_under-like Builtin.Set e) (symbol_in-like e) (λ a b both. symbol_in-like both.0)
+  plain_symbol-like : {e f : Tree} → Like S e f → Opt S (plain_symbol e) (plain_symbol f)
+  plain_symbol-like (sym s) = some s
+  plain_symbol-like _ = none
 
-  bound_symbols-like : {es fs : List Tree} → LikeList S es fs → All S (bound_symbols (binders names) es) (bound_symbols (binders names) fs)
-  bound_symbols-like all_nil = all_nil
-  bound_symbols-like (all_cons e es) = append2 (bound_symbol-like e) (bound_symbols-like es)
+  valued_symbol-like : {e f : Tree} → Like S e f → Opt S (valued_symbol (binders names) e) (valued_symbol (binders names) f)
+  valued_symbol-like e = case (Opt S) (pair_under-like Builtin.Set e) none (λ a b both. plain_symbol-like both.0)
 
-  bound_locals-like : {es fs : List Tree} → LikeList S es fs → All S (bound_locals (binders names) es) (bound_locals (binders names) fs)
-  bound_locals-like all_nil = all_nil
-  bound_locals-like (all_cons x xs) = case (All S) (elements_under-like Builtin.List x) all_nil (λ a b l. bound_symbols-like l)
+  local_symbol-like : {e f : Tree} → Like S e f → Opt S (local_symbol (binders names) e) (local_symbol (binders names) f)
+  local_symbol-like e = case (Opt S) (pair_under-like Builtin.Set e) (plain_symbol-like e) (λ a b both. plain_symbol-like both.0)
+
+  -- a way to find a symbol finds related ones in related expressions
+  abbrev Finds : (Tree → Option Sym) → Type 0
+  Finds member = (e f : Tree) → Like S e f → Opt S (member e) (member f)
+
+  symbols_by-like : {member : Tree → Option Sym} → Finds member → {es fs : List Tree} → LikeList S es fs → Opt (All S) (symbols_by member es) (symbols_by member fs)
+  symbols_by-like finds all_nil = some all_nil
+  symbols_by-like finds (all_cons e es) =
+      case (Opt (All S)) (finds _ _ e) none (λ s t one. case (Opt (All S)) (symbols_by-like finds es) none (λ ss ts all. some (all_cons one all)))
+
+  or_none : {o p : Option (List Sym)} → Opt (All S) o p → All S (unwrap_or o []) (unwrap_or p [])
+  or_none none = all_nil
+  or_none (some all) = all
+
+  bound_by-like : {member : Tree → Option Sym} → Finds member → {es fs : List Tree} → LikeList S es fs → All S (bound_by member es) (bound_by member fs)
+  bound_by-like finds es = or_none (symbols_by-like finds es)
+
+  bound_locals-like : {member : Tree → Option Sym} → Finds member → {es fs : List Tree} → LikeList S es fs → All S (bound_locals (binders names) member es) (bound_locals (binders names) member fs)
+  bound_locals-like finds (all_cons x (all_cons y all_nil)) = case (All S) (elements_under-like Builtin.List x) all_nil (λ a b l. bound_by-like finds l)
+  bound_locals-like finds _ = all_nil
 
   bound_parameters-like : {es fs : List Tree} → LikeList S es fs → All S (bound_parameters (binders names) es) (bound_parameters (binders names) fs)
-  bound_parameters-like all_nil = all_nil
-  bound_parameters-like (all_cons x all_nil) = all_nil
-  bound_parameters-like (all_cons x (all_cons y ys)) = case (All S) (elements_under-like Builtin.List x) (symbol_in-like x) (λ a b l. bound_symbols-like l)
+  bound_parameters-like (all_cons x (all_cons y all_nil)) =
+      case (All S) (elements_under-like Builtin.List x) (symbol_in-like x) (λ a b l. bound_by-like {member = plain_symbol} (λ e f one. plain_symbol-like one) l)
+  bound_parameters-like _ = all_nil
 
   bound_in-like : {h g : Tree} {es fs : List Tree} → Like S h g → LikeList S es fs → All S (bound_in (binders names) h es) (bound_in (binders names) g fs)
   bound_in-like int es = all_nil
   bound_in-like str es = all_nil
   bound_in-like (node h fs) es = all_nil
   bound_in-like (sym s) es =
-      either (All S) (rw (same_symbol-like S names F s (F.knows Builtin.Module), same_symbol-like S names F s (F.knows Builtin.With)) refl) (bound_locals-like es)
-      (either (All S) (same_symbol-like S names F s (F.knows Builtin.Function)) (bound_parameters-like es) all_nil)
+      either (All S) (same_symbol-like S names F s (F.knows Builtin.Module)) (bound_locals-like {member = local_symbol (binders names)} (λ e f one. local_symbol-like one) es)
+      (either (All S) (same_symbol-like S names F s (F.knows Builtin.With)) (bound_locals-like {member = valued_symbol (binders names)} (λ e f one. valued_symbol-like one) es)
+      (either (All S) (same_symbol-like S names F s (F.knows Builtin.Function)) (bound_parameters-like es) all_nil))
 
   without-like : {ss ts : List Sym} {b c : Binding} → All S ss ts → All (LikeBound S) b c → All (LikeBound S) (without ss b) (without ts c)
   without-like ss all_nil = all_nil

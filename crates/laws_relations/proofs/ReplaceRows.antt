@@ -11,7 +11,7 @@ use Rattle.laws_relations.proofs.Listed.{reverse2}
 use Rattle.laws_relations.proofs.Relation.{int, str, sym, node, Likes, ends, mores, LikeRule, listed-like, items-like, call-like, same-like, is_call-like}
 use Rattle.laws_relations.proofs.NumberRows.{truth-like}
 use Rattle.laws_relations.proofs.Kin.{Kin, LikeTree, LikeTrees, LikeRules}
-use Rattle.laws_relations.proofs.Simulation.{Both, Next, done, stop, turn, check}
+use Rattle.laws_relations.proofs.Simulation.{Both, Next, done, ask, stop, turn, check}
 use Rattle.laws_relations.proofs.Programs.{try_rules-both}
 
 module _ (K : Kin) where
@@ -55,7 +55,7 @@ module _ (K : Kin) where
 
   rounds-both : (n : ℕ) {rs qs : List Rule} {e f : Tree} → LikeRules K rs qs → LikeTree K e f → Both K (rounds names rs n e) (rounds names qs n f)
   rounds-both zero rules e = turn (replaced-both _ _ rules e (λ v x same. check same (branch (Both K) (same-like K.Symbols names K.faithful same e) (done same) stop)))
-  rounds-both (suc n) rules e = turn (replaced-both _ _ rules e (λ v x same. check same (branch (Both K) (same-like K.Symbols names K.faithful same e) (done same) (rounds-both n rules same))))
+  rounds-both (suc n) rules e = turn (replaced-both _ _ rules e (λ v x same. check same (branch (Both K) (same-like K.Symbols names K.faithful same e) (done same) (ask same (λ x y value. rounds-both n rules value)))))
 
   pub replace_repeated-both : {p q : Prog} {es fs : List Tree} → Both K p q → LikeTrees K es fs → Both K (replace_repeated names p es) (replace_repeated names q fs)
   replace_repeated-both stay (all_cons e (all_cons r all_nil)) = case (Both K) (rule_set-like r) stay (λ rs qs rules. rounds-both 4095 rules e)

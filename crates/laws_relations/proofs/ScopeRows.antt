@@ -1,10 +1,10 @@
 -- What Module, Block, With and the application of a Function owe.
-use Rattle.std.proofs.Common.{◌≡◌, refl, ap, ℕ, zero, suc, Bool, ltb, List}
-use Rattle.std.specs.Prelude.{pos}
+use Rattle.std.proofs.Common.{◌≡◌, refl, ap, ℕ, zero, suc, Bool, ltb, List, Option}
+use Rattle.std.specs.Prelude.{pos, ◌||◌}
 use Rattle.expr_tree.specs.declared.sym.Sym.{Sym}
 use Rattle.expr_tree.specs.Tree.{Tree, Trees}
 use Rattle.semantics.specs.declared.builtin.Builtin.{Builtin}
-use Rattle.semantics.specs.InPlace.{nth, slot_number, filled, slot_value, is_slot, is_pure_function, fill_slots, fill_in_items}
+use Rattle.semantics.specs.InPlace.{nth, slot_number, filled, slot_of, is_pure_function, fill_slots, fill_in_items}
 use Rattle.semantics.specs.Program.{Prog, Local}
 use Rattle.semantics.specs.Scoping.{plain_local, valued_local, local_of, locals_of, symbols_of, differ, has_base, bases_differ, ask_values, with_locals, renaming, with_number, make_all, module_form, unless_any_shared, block_form, values_in, with_form, symbols_in, paired, parameters, put_arguments, apply_function}
 use Rattle.laws_relations.proofs.Relate.{Opt, none, some, All, all_nil, all_cons, branch, case, append2, length2}
@@ -149,11 +149,10 @@ module _ (K : Kin) where
       branch (LikeTree K) (is_call-like K.Symbols names K.faithful Builtin.Slot e) (case (LikeTree K) (nth-like args (suc n)) e (λ a b one. one))
       (branch (LikeTree K) (ap (ltb n) (length2 args)) (as_one-like K.Symbols names K.faithful (drop2 n args)) e)
 
-  slot_value-like : {e f : Tree} {es fs : List Tree} → LikeTrees K es fs → LikeTree K e f → LikeTree K (slot_value names es e) (slot_value names fs f)
-  slot_value-like args e = same_case (LikeTree K) (slot_number-like (items-like K.Symbols e)) e (λ n. filled-like n args e)
-
-  is_slot-like : {e f : Tree} → LikeTree K e f → is_slot names e ≡ is_slot names f
-  is_slot-like e = rw (is_call-like K.Symbols names K.faithful Builtin.Slot e, is_call-like K.Symbols names K.faithful Builtin.SlotSequence e) refl
+  slot_of-like : {e f : Tree} → LikeTree K e f → slot_of names e ≡ slot_of names f
+  slot_of-like e =
+      branch (◌≡◌ {A = Option ℕ}) (λ i. is_call-like K.Symbols names K.faithful Builtin.Slot e i || is_call-like K.Symbols names K.faithful Builtin.SlotSequence e i)
+      (slot_number-like (items-like K.Symbols e)) refl
 
   is_pure_function-like : {h g : Tree} {es fs : Trees} → LikeTree K h g → Likes K.Symbols es fs → is_pure_function names h es ≡ is_pure_function names g fs
   is_pure_function-like h (mores e ends) = is_name-like K.Symbols names K.faithful Builtin.Function h
@@ -165,8 +164,8 @@ module _ (K : Kin) where
     fill_slots-like args str = str
     fill_slots-like args (sym s) = sym s
     fill_slots-like args (node h es) =
-        branch (LikeTree K) (is_slot-like (node h es)) (slot_value-like args (node h es))
-        (branch (LikeTree K) (is_pure_function-like h es) (node h es) (node (fill_slots-like args h) (fill_in_items-like args es)))
+        same_case (LikeTree K) (slot_of-like (node h es))
+        (branch (LikeTree K) (is_pure_function-like h es) (node h es) (node (fill_slots-like args h) (fill_in_items-like args es))) (λ n. filled-like n args (node h es))
 
     fill_in_items-like : {as' bs : Trees} {es fs : List Tree} → LikeTrees K es fs → Likes K.Symbols as' bs → Likes K.Symbols (fill_in_items names es as') (fill_in_items names fs bs)
     fill_in_items-like args ends = ends

@@ -122,7 +122,7 @@ abbrev pub change_own : Names → Sym → (Tree → Tree) → (Tree → Tree →
 change_own names s next gives d =
     elim d.own [
       | None ↦ failed names
-      | Some old ↦ Check (next old) (Ask (next old) (λ v. Look s (λ seen. renew names s v (gives old v) seen.definition)))
+      | Some old ↦ Check (next old) (Ask (next old) (λ v. Look s (λ seen. noting (is_some seen.shared) (renew names s v (gives old v) seen.definition))))
     ]
 
 abbrev pub change : Names → Sym → (Tree → Tree) → (Tree → Tree → Tree) → Prog
