@@ -15,22 +15,18 @@ use Rattle.semantics.specs.Definitions.{Definitions, empty, is_empty}
 use Rattle.semantics.specs.Program.{Mode, Request, Call}
 use Rattle.expr_tree.specs.declared.limits.Limits.{Limits}
 use Rattle.semantics.specs.Play.{Setting, End, Reply, Play, Over, Calls, whole}
+use Rattle.journal.specs.declared.recover.Recover.{Recover}
 use Rattle.journal.specs.Places.{nth, change_at, each_from, member, is_some}
 use Rattle.journal.specs.Closure.{Bundle}
 use Rattle.journal.specs.Entry.{Text, Wait, Event, Item, Handed, Posted}
 
--- what a loss does to the item that the kernel runs: it waits again, or it is done
-pub data Recovery : Type 0 where
-  Retry Abandon : Recovery
-
--- what does not change in a run: `shown` is the text of a value as an Out line shows it; `plan` holds a kernel and the number of its entry that is a loss
+-- what does not change in a run: `shown` is the text of a value as an Out line shows it
 pub record Setup : Type 0 where
   pub names : Names
   pub shown : Tree → Text
   pub kernels : ℕ
   pub limits : Limits
-  pub recovery : Recovery
-  pub plan : List (ℕ × ℕ)
+  pub recovery : Recover
 
 pub data Status : Type 0 where
   Waiting : Status
@@ -237,7 +233,7 @@ runs_on k (Running j) = j == k
 runs_on k _ = false
 
 abbrev pub recovered : Setup → Item → Status
-recovered set item = elim set.recovery [ Retry ↦ Waiting | Abandon ↦ Done (abandoned set.names item) ]
+recovered set item = elim set.recovery [ Recover.Retry ↦ Waiting | Recover.Abandon ↦ Done (abandoned set.names item) ]
 
 -- at the loss of kernel k: a pinned item of it, running or waiting, is done; another that it runs is recovered
 abbrev pub fate : Setup → ℕ → Item → Status → Status

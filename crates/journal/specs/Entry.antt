@@ -1,5 +1,5 @@
 -- What is posted: events, entries, and what the master hands in beside them.
---     Loss, Wait, Event     what an entry says
+--     Wait, Event           what an entry says
 --     Entry                 an event with the kernel that posted it; the journal is a list of these
 --     Item                  what is submitted
 --     Handed, Posted        what the master hands in at an entry; an entry with that
@@ -7,14 +7,12 @@ use Rattle.std.specs.Prelude.{ℕ, List}
 use Rattle.expr_tree.specs.declared.sym.Sym.{Sym}
 use Rattle.expr_tree.specs.Tree.{Tree}
 use Rattle.semantics.specs.Definitions.{Definitions}
+use Rattle.journal.specs.declared.loss.Loss.{Loss}
 use Rattle.journal.specs.Closure.{Bundle}
 
 -- a text is the list of its bytes
 abbrev pub Text : Type 0
 Text = List ℕ
-
-pub data Loss : Type 0 where
-  Plan Quit NotStarted : Loss
 
 pub data Wait : Type 0 where
   All : List ℕ → Wait
@@ -46,11 +44,13 @@ pub data Item : Type 0 where
   -- for one kernel alone
   Pinned : ℕ → Tree → Item
 
--- at Submit the item with its bundle, at Yield the master's definitions, and nothing elsewhere
+-- at Submit the item with its bundle; at Yield the master's definitions; at Take the versions of definitions that the kernel holds, which
+-- change nothing; and nothing elsewhere
 pub data Handed : Type 0 where
   Nothing : Handed
   Given : Item → Bundle → Handed
   Lent : Definitions → Handed
+  Held : List (Sym × ℕ) → Handed
 
 pub record Posted : Type 0 where
   pub entry : Entry

@@ -1,6 +1,7 @@
 -- What a kernel posts: its own entries are what its evaluations ask, one after the other.
 --     Attempt                what a kernel does with an item: one call after the other, up to what it delivers
 --     View, watch            a kernel as seen in a journal; what one entry of the journal makes of that
+--     Plan                   the entries that are losses
 --     kernel_run             a whole journal, seen so. It is undefined where an own entry is none that the kernel would post
 use Rattle.std.specs.Prelude.{ℕ, zero, suc, pos, List, [], ◌∷◌, ◌++◌, reverse, Bool, true, false, ◌&&◌, ◌||◌, not, ◌==◌, T, Option, Some, None}
 use Rattle.std.specs.Ordering.{is_eq}
@@ -15,7 +16,8 @@ use Rattle.semantics.specs.Play.{State, End, Reply, Play, Over, Calls, whole, to
 use Rattle.semantics.specs.Eval.{same_symbols}
 use Rattle.journal.specs.Places.{nth, given, when, is_some}
 use Rattle.journal.specs.Closure.{Bundle, install}
-use Rattle.journal.specs.Entry.{Loss, Event, Item, Handed, Posted}
+use Rattle.journal.specs.declared.loss.Loss.{Loss}
+use Rattle.journal.specs.Entry.{Event, Item, Handed, Posted}
 use Rattle.journal.specs.Core.{Setup, in_mode, aborted, null}
 
 pub data Attempt : Type 0 where
@@ -112,7 +114,11 @@ moved set k items (Free d) (Event.Take id) = taken set k items d id
 moved set k items (At id a) event = attempted set.names id a event
 moved set k items _ _ = None
 
-abbrev pub is_planned : List (ℕ × ℕ) → ℕ → ℕ → Bool
+-- a kernel, and the number of its entry that is a loss
+abbrev pub Plan : Type 0
+Plan = List (ℕ × ℕ)
+
+abbrev pub is_planned : Plan → ℕ → ℕ → Bool
 is_planned [] k n = false
 is_planned (p ∷ ps) k n = ((p.0 == k) && (p.1 == n)) || is_planned ps k n
 
@@ -127,9 +133,9 @@ or_planned true _ o = None
 or_planned false _ o = o
 
 -- a kernel that was not started has one entry, which says so
-abbrev pub own_entry : Setup → ℕ → View → Event → Option Phase
-own_entry set k v (Event.Lose Loss.NotStarted) = when (v.own == 0) (Some Lost)
-own_entry set k v event = when (not (is_lost v.phase)) (or_planned (is_planned set.plan k (suc v.own)) event (moved set k v.items v.phase event))
+abbrev pub own_entry : Setup → Plan → ℕ → View → Event → Option Phase
+own_entry set plan k v (Event.Lose Loss.NotStarted) = when (v.own == 0) (Some Lost)
+own_entry set plan k v event = when (not (is_lost v.phase)) (or_planned (is_planned plan k (suc v.own)) event (moved set k v.items v.phase event))
 
 -- of the entries of kernel 0 those are the stand-in's that stand from a Take to its Deliver
 abbrev pub stand_in_entry : Setup → View → Phase → Event → Option Phase
@@ -137,33 +143,34 @@ stand_in_entry set v (Free d) (Event.Take id) = taken set 0 v.items d id
 stand_in_entry set v (At id a) event = attempted set.names id a event
 stand_in_entry set v phase event = Some phase
 
-abbrev pub entry_of : Setup → ℕ → View → Event → Option Phase
-entry_of set zero v event = stand_in_entry set v v.phase event
-entry_of set (suc k) v event = own_entry set (suc k) v event
+abbrev pub entry_of : Setup → Plan → ℕ → View → Event → Option Phase
+entry_of set plan zero v event = stand_in_entry set v v.phase event
+entry_of set plan (suc k) v event = own_entry set plan (suc k) v event
 
-abbrev pub with_handed : Handed → List (Item × Bundle) → List (Item × Bundle)
-with_handed (Handed.Given item b) items = items ++ (item, b) ∷ []
-with_handed _ items = items
+-- an item with its bundle is handed in at Submit alone
+abbrev pub with_handed : Event → Handed → List (Item × Bundle) → List (Item × Bundle)
+with_handed (Event.Submit id) (Handed.Given item b) items = items ++ (item, b) ∷ []
+with_handed _ _ items = items
 
-abbrev pub watch : Setup → ℕ → View → Posted → Option View
-watch set k v p =
+abbrev pub watch : Setup → Plan → ℕ → View → Posted → Option View
+watch set plan k v p =
     elim (p.entry.kernel == k) [
-      | false ↦ Some (record v { items = with_handed p.handed v.items })
-      | true ↦ given (entry_of set k v p.entry.event) (λ phase. Some (record { items = with_handed p.handed v.items; own = suc v.own; phase = phase }))
+      | false ↦ Some (record v { items = with_handed p.entry.event p.handed v.items })
+      | true ↦ given (entry_of set plan k v p.entry.event) (λ phase. Some (record { items = with_handed p.entry.event p.handed v.items; own = suc v.own; phase = phase }))
     ]
 
-abbrev pub watch_from : Setup → ℕ → View → List Posted → Option View
-watch_from set k v [] = Some v
-watch_from set k v (p ∷ ps) = given (watch set k v p) (λ w. watch_from set k w ps)
+abbrev pub watch_from : Setup → Plan → ℕ → View → List Posted → Option View
+watch_from set plan k v [] = Some v
+watch_from set plan k v (p ∷ ps) = given (watch set plan k v p) (λ w. watch_from set plan k w ps)
 
-abbrev pub kernel_run : Setup → ℕ → List Posted → Option View
-kernel_run set k ps = watch_from set k first_view ps
+abbrev pub kernel_run : Setup → Plan → ℕ → List Posted → Option View
+kernel_run set plan k ps = watch_from set plan k first_view ps
 
 -- what kernel k, or with 0 the stand-in, has posted is what it would post
-abbrev pub KernelRun : Setup → ℕ → List Posted → Type 0
-KernelRun set k ps = T (is_some (kernel_run set k ps))
+abbrev pub KernelRun : Setup → Plan → ℕ → List Posted → Type 0
+KernelRun set plan k ps = T (is_some (kernel_run set plan k ps))
 
 -- the same of the kernels up to n, and of the stand-in
-abbrev pub all_run : Setup → ℕ → List Posted → Bool
-all_run set zero ps = is_some (kernel_run set 0 ps)
-all_run set (suc n) ps = is_some (kernel_run set (suc n) ps) && all_run set n ps
+abbrev pub all_run : Setup → Plan → ℕ → List Posted → Bool
+all_run set plan zero ps = is_some (kernel_run set plan 0 ps)
+all_run set plan (suc n) ps = is_some (kernel_run set plan (suc n) ps) && all_run set plan n ps

@@ -8,7 +8,8 @@ use Rattle.expr_tree.specs.declared.sym.Sym.{Sym}
 use Rattle.script_text.specs.Bytes.{each_after}
 use Rattle.script_text.specs.Spelling.{Spelling, symbol_text}
 use Rattle.script_text.specs.Full.{full, quoted}
-use Rattle.journal.specs.Entry.{Text, Loss, Wait, Event, Entry}
+use Rattle.journal.specs.declared.loss.Loss.{Loss}
+use Rattle.journal.specs.Entry.{Text, Wait, Event, Entry}
 
 -- each with a space in front
 abbrev pub spaced : List Text → Text

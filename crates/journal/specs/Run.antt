@@ -1,9 +1,11 @@
 -- The sequential run of a script along a journal.
 --     Walk                   the core, what was posted so far, and the entries that are left
+--     Course                 how far it comes: it goes on, the journal is used up, or an entry is another than the one that it defines
 --     answer                 how the journal answers a call of a cell: the reply, the definitions after it, and the walk
 --     play_along             a whole evaluation, each call answered so
 --     run                    the first m cells of a script
 --     legal, transcript      whether a journal is one of the script's; the lines that are written
+--     started                whether a journal may be the beginning of one
 use Rattle.std.specs.Prelude.{ℕ, suc, pos, List, [], ◌∷◌, ◌++◌, map, length, drop, take, Bool, true, false, ◌&&◌, ◌==◌, ltb, T, Option, Some, None}
 use Rattle.std.specs.Ordering.{is_eq}
 use Rattle.expr_tree.specs.declared.sym.Sym.{Sym}
@@ -15,11 +17,11 @@ use Rattle.semantics.specs.Definitions.{Definitions, empty}
 use Rattle.semantics.specs.Program.{Mode, Request, Call}
 use Rattle.semantics.specs.Play.{State, End, Reply, Play, Over, Calls, whole}
 use Rattle.semantics.specs.Eval.{same_symbols}
-use Rattle.journal.specs.Places.{given, when}
+use Rattle.journal.specs.Places.{given}
 use Rattle.journal.specs.Closure.{bundle, symbols_of, symbols_of_all}
 use Rattle.journal.specs.Entry.{Text, Wait, Event, Entry, Item, Handed, Posted}
 use Rattle.journal.specs.Core.{Setup, Core, start, step, all_free, wait_reply, in_mode, count, value_for, aborted, null}
-use Rattle.journal.specs.Follow.{all_run}
+use Rattle.journal.specs.Follow.{Plan, all_run}
 use Rattle.journal.specs.Forms.{Next, Replies, Awaits, Form, Answers, Submits, form}
 
 pub record Walk : Type 0 where
@@ -27,11 +29,37 @@ pub record Walk : Type 0 where
   pub posted : List Posted
   pub rest : List Entry
 
+-- where the journal is used up before an end, what was posted by then
+pub data Course (A : Type 0) : Type 0 where
+  Goes : A → Course A
+  UsedUp : Walk → Course A
+  Differs : Course A
+
+abbrev pub going : {A B : Type 0} → Course A → (A → Course B) → Course B
+going (Goes a) k = k a
+going (UsedUp w) k = UsedUp w
+going Differs k = Differs
+
+abbrev pub or_differs : {A : Type 0} → Bool → Course A → Course A
+or_differs true o = o
+or_differs false o = Differs
+
+-- whatever comes next is another entry
+abbrev pub no_entry : {A : Type 0} → Walk → List Entry → Course A
+no_entry w [] = UsedUp w
+no_entry w (e ∷ es) = Differs
+
+-- the end of a run that comes to it
+abbrev pub arrived : {A : Type 0} → Course A → Option A
+arrived (Goes a) = Some a
+arrived (UsedUp w) = None
+arrived Differs = None
+
 -- one entry, with what is handed in beside it
-abbrev pub post : Setup → Handed → Walk → Entry → List Entry → Option Walk
+abbrev pub post : Setup → Handed → Walk → Entry → List Entry → Course Walk
 post set h w e rest =
     let p : Posted = record { entry = e; handed = h } in
-    given (step set w.core p) (λ c. Some (record { core = c; posted = w.posted ++ p ∷ []; rest = rest }))
+    elim (step set w.core p) [ None ↦ Differs | Some c ↦ Goes (record { core = c; posted = w.posted ++ p ∷ []; rest = rest }) ]
 
 -- whether an entry is the master's with this event; replies and texts are the core's to judge
 abbrev pub same_ids : List ℕ → List ℕ → Bool
@@ -58,11 +86,11 @@ is_event Event.Close Event.Close = true
 is_event _ _ = false
 
 -- the next entry has to be the master's with this event
-abbrev pub post_next : Setup → Event → Handed → Walk → List Entry → Option Walk
-post_next set event h w [] = None
-post_next set event h w (e ∷ es) = when ((e.kernel == 0) && is_event event e.event) (post set h w e es)
+abbrev pub post_next : Setup → Event → Handed → Walk → List Entry → Course Walk
+post_next set event h w [] = UsedUp w
+post_next set event h w (e ∷ es) = or_differs ((e.kernel == 0) && is_event event e.event) (post set h w e es)
 
-abbrev pub master_posts : Setup → Event → Handed → Walk → Option Walk
+abbrev pub master_posts : Setup → Event → Handed → Walk → Course Walk
 master_posts set event h w = post_next set event h w w.rest
 
 abbrev pub is_resume : Event → Bool
@@ -70,15 +98,15 @@ is_resume Event.Resume = true
 is_resume _ = false
 
 -- the entries up to Resume, whoever posts them; with the reply of the wait
-abbrev pub until_resume : Setup → Walk → List Entry → Option (List Tree × Walk)
-until_resume set w [] = None
+abbrev pub until_resume : Setup → Walk → List Entry → Course (List Tree × Walk)
+until_resume set w [] = UsedUp w
 until_resume set w (e ∷ es) =
-    given (post set Handed.Nothing w e es) (λ v.
-    elim (is_resume e.event) [ true ↦ Some (wait_reply set.names w.core, v) | false ↦ until_resume set v es ])
+    going (post set Handed.Nothing w e es) (λ v.
+    elim (is_resume e.event) [ true ↦ Goes (wait_reply set.names w.core, v) | false ↦ until_resume set v es ])
 
 -- a Yield and the entries up to Resume
-abbrev pub wait_for : Setup → Definitions → Wait → Walk → Option (List Tree × Walk)
-wait_for set d wait w = given (master_posts set (Event.Yield wait) (Handed.Lent d) w) (λ v. until_resume set v v.rest)
+abbrev pub wait_for : Setup → Definitions → Wait → Walk → Course (List Tree × Walk)
+wait_for set d wait w = going (master_posts set (Event.Yield wait) (Handed.Lent d) w) (λ v. until_resume set v v.rest)
 
 -- an item goes with the bundle of its symbols; that of a batch is taken over the list of its applications
 abbrev pub seeds_of : Item → List Sym
@@ -87,11 +115,11 @@ seeds_of (Item.Batch es) = symbols_of_all es
 seeds_of (Item.Pinned k e) = symbols_of e
 
 -- items in order, with their ids
-abbrev pub submit_all : Setup → Definitions → List Item → Walk → Option (List ℕ × Walk)
-submit_all set d [] w = Some ([], w)
+abbrev pub submit_all : Setup → Definitions → List Item → Walk → Course (List ℕ × Walk)
+submit_all set d [] w = Goes ([], w)
 submit_all set d (i ∷ is) w =
-    given (master_posts set (Event.Submit (suc (length w.core.items))) (Handed.Given i (bundle set.names d (seeds_of i))) w)
-    (λ v. given (submit_all set d is v) (λ r. Some (suc (length w.core.items) ∷ r.0, r.1)))
+    going (master_posts set (Event.Submit (suc (length w.core.items))) (Handed.Given i (bundle set.names d (seeds_of i))) w)
+    (λ v. going (submit_all set d is v) (λ r. Goes (suc (length w.core.items) ∷ r.0, r.1)))
 
 -- ---- calls
 
@@ -100,33 +128,33 @@ pub record Answered : Type 0 where
   pub after : Definitions
   pub walk : Walk
 
-abbrev pub replied : Tree → Definitions → Option Walk → Option Answered
-replied v d o = given o (λ w. Some (record { reply = Reply.Replied v; after = d; walk = w }))
+abbrev pub replied : Tree → Definitions → Course Walk → Course Answered
+replied v d o = going o (λ w. Goes (record { reply = Reply.Replied v; after = d; walk = w }))
 
-abbrev pub by_next : Setup → Definitions → Next → Walk → Option Answered
-by_next set d (Replies reply) w = Some (record { reply = reply; after = d; walk = w })
+abbrev pub by_next : Setup → Definitions → Next → Walk → Course Answered
+by_next set d (Replies reply) w = Goes (record { reply = reply; after = d; walk = w })
 by_next set d (Awaits wait k) w =
-    given (wait_for set d wait w) (λ r. Some (record { reply = k r.0; after = r.1.core.definitions; walk = r.1 }))
+    going (wait_for set d wait w) (λ r. Goes (record { reply = k r.0; after = r.1.core.definitions; walk = r.1 }))
 
-abbrev pub by_form : Setup → Definitions → Form → Walk → Option Answered
-by_form set d (Answers reply after) w = Some (record { reply = reply; after = after; walk = w })
-by_form set d (Submits items k) w = given (submit_all set d items w) (λ r. by_next set d (k r.0) r.1)
+abbrev pub by_form : Setup → Definitions → Form → Walk → Course Answered
+by_form set d (Answers reply after) w = Goes (record { reply = reply; after = after; walk = w })
+by_form set d (Submits items k) w = going (submit_all set d items w) (λ r. by_next set d (k r.0) r.1)
 
 -- the master enters where every lock is free, and else waits for that; the definitions after a wait are the core's
-abbrev pub enter : Setup → Definitions → List Sym → Walk → Option Answered
+abbrev pub enter : Setup → Definitions → List Sym → Walk → Course Answered
 enter set d locks w =
     elim (all_free w.core locks) [
       | true ↦ replied (null set.names) d (master_posts set (Event.Enter locks) Handed.Nothing w)
-      | false ↦ given (wait_for set d (Wait.Locks locks) w) (λ r. replied (null set.names) r.1.core.definitions (master_posts set (Event.Enter locks) Handed.Nothing r.1))
+      | false ↦ going (wait_for set d (Wait.Locks locks) w) (λ r. replied (null set.names) r.1.core.definitions (master_posts set (Event.Enter locks) Handed.Nothing r.1))
     ]
 
-abbrev pub answer : Setup → Call → Definitions → Walk → Option Answered
+abbrev pub answer : Setup → Call → Definitions → Walk → Course Answered
 answer set (Call.Sends Request.Count) d w = replied (integer (pos (count w.core))) d (master_posts set (Event.Ask (count w.core)) Handed.Nothing w)
 answer set (Call.Sends (Request.Print t)) d w = replied (null set.names) d (master_posts set (Event.Print t) Handed.Nothing w)
 answer set Call.Leave d w = replied (null set.names) d (master_posts set Event.Leave Handed.Nothing w)
 answer set (Call.Enter locks) d w = enter set d locks w
 answer set (Call.Sends (Request.Outside e)) d w = by_form set d (form set w.core d e) w
-answer set (Call.Sends (Request.Access e)) d w = None
+answer set (Call.Sends (Request.Access e)) d w = no_entry w w.rest
 
 -- how an evaluation ended, and its state there
 pub record Finish : Type 0 where
@@ -134,9 +162,9 @@ pub record Finish : Type 0 where
   pub state : State
 
 -- an evaluation along the journal
-abbrev pub play_along : Setup → Play → Walk → Option (Finish × Walk)
-play_along set (Over end s) w = Some (record { end = end; state = s }, w)
-play_along set (Calls c s k) w = given (answer set c s.definitions w) (λ a. play_along set (k a.reply a.after) a.walk)
+abbrev pub play_along : Setup → Play → Walk → Course (Finish × Walk)
+play_along set (Over end s) w = Goes (record { end = end; state = s }, w)
+play_along set (Calls c s k) w = going (answer set c s.definitions w) (λ a. play_along set (k a.reply a.after) a.walk)
 
 -- ---- cells
 
@@ -173,35 +201,38 @@ abbrev pub with_lines : List Line → Ran → Ran
 with_lines ls ran = record ran { lines = ran.lines ++ ls }
 
 -- a cell whose reading is too deep is not evaluated
-abbrev pub run_cell : Setup → ℕ → Reading → Ran → Option Ran
-run_cell set n (Unread at) ran = Some (with_lines (Syntax n at ∷ []) ran)
+abbrev pub run_cell : Setup → ℕ → Reading → Ran → Course Ran
+run_cell set n (Unread at) ran = Goes (with_lines (Syntax n at ∷ []) ran)
 run_cell set n (Reads e) ran =
     elim (ltb set.limits.depth (depth e)) [
-      | true ↦ Some (with_lines (out_line set.names n (aborted set.names)) ran)
-      | false ↦ given (play_along set (whole (in_mode set Mode.Cell 0) ran.definitions e) ran.walk) (λ r. Some (after_cell set n ran r))
+      | true ↦ Goes (with_lines (out_line set.names n (aborted set.names)) ran)
+      | false ↦ going (play_along set (whole (in_mode set Mode.Cell 0) ran.definitions e) ran.walk) (λ r. Goes (after_cell set n ran r))
     ]
 
-abbrev pub run_cells : Setup → ℕ → List Reading → Ran → Option Ran
-run_cells set n [] ran = Some ran
-run_cells set n (c ∷ cs) ran = given (run_cell set n c ran) (λ r. run_cells set (suc n) cs r)
+abbrev pub run_cells : Setup → ℕ → List Reading → Ran → Course Ran
+run_cells set n [] ran = Goes ran
+run_cells set n (c ∷ cs) ran = going (run_cell set n c ran) (λ r. run_cells set (suc n) cs r)
 
 abbrev pub is_loss : Event → Bool
 is_loss (Event.Lose cause) = true
 is_loss _ = false
 
 -- losses that come before the master posts anything
-abbrev pub first_losses : Setup → Walk → List Entry → Option Walk
-first_losses set w [] = Some w
-first_losses set w (e ∷ es) = elim (is_loss e.event) [ true ↦ given (post set Handed.Nothing w e es) (λ v. first_losses set v es) | false ↦ Some w ]
+abbrev pub first_losses : Setup → Walk → List Entry → Course Walk
+first_losses set w [] = Goes w
+first_losses set w (e ∷ es) = elim (is_loss e.event) [ true ↦ going (post set Handed.Nothing w e es) (λ v. first_losses set v es) | false ↦ Goes w ]
 
 abbrev pub first_walk : Setup → List Entry → Walk
 first_walk set journal = record { core = start set; posted = []; rest = journal }
 
 -- the first m cells
-abbrev pub run : Setup → List Reading → List Entry → ℕ → Option Ran
-run set cells journal m =
-    given (first_losses set (first_walk set journal) journal)
+abbrev pub run_along : Setup → List Reading → List Entry → ℕ → Course Ran
+run_along set cells journal m =
+    going (first_losses set (first_walk set journal) journal)
     (λ w. run_cells set 1 (take m cells) (record { walk = w; definitions = empty; lines = [] }))
+
+abbrev pub run : Setup → List Reading → List Entry → ℕ → Option Ran
+run set cells journal m = arrived (run_along set cells journal m)
 
 -- ---- legal journals
 
@@ -210,18 +241,42 @@ is_over [] = true
 is_over (e ∷ es) = false
 
 -- Close is the last entry
-abbrev pub closes : Setup → Walk → Option Walk
-closes set w = given (master_posts set Event.Close Handed.Nothing w) (λ v. when (is_over v.rest) (Some v))
+abbrev pub closes : Setup → Walk → Course Walk
+closes set w = going (master_posts set Event.Close Handed.Nothing w) (λ v. or_differs (is_over v.rest) (Goes v))
+
+-- all cells, and Close
+abbrev pub whole_run : Setup → List Reading → List Entry → Course Walk
+whole_run set cells journal = going (run_along set cells journal (length cells)) (λ ran. closes set ran.walk)
 
 -- the whole journal with what was handed in, if the run over all cells is defined on it
 abbrev pub posted_by : Setup → List Reading → List Entry → Option (List Posted)
-posted_by set cells journal = given (run set cells journal (length cells)) (λ ran. given (closes set ran.walk) (λ w. Some w.posted))
+posted_by set cells journal = given (arrived (whole_run set cells journal)) (λ w. Some w.posted)
 
-abbrev pub legal : Setup → List Reading → List Entry → Bool
-legal set cells journal = elim (posted_by set cells journal) [ None ↦ false | Some ps ↦ all_run set set.kernels ps ]
+-- the same where the journal may end sooner
+abbrev pub used_by : Course Walk → Option (List Posted)
+used_by (Goes w) = Some w.posted
+used_by (UsedUp w) = Some w.posted
+used_by Differs = None
 
-abbrev pub Legal : Setup → List Reading → List Entry → Type 0
-Legal set cells journal = T (legal set cells journal)
+abbrev pub begun_by : Setup → List Reading → List Entry → Option (List Posted)
+begun_by set cells journal = used_by (whole_run set cells journal)
+
+abbrev pub kernels_run : Setup → Plan → Option (List Posted) → Bool
+kernels_run set plan None = false
+kernels_run set plan (Some ps) = all_run set plan set.kernels ps
+
+abbrev pub legal : Setup → Plan → List Reading → List Entry → Bool
+legal set plan cells journal = kernels_run set plan (posted_by set cells journal)
+
+abbrev pub Legal : Setup → Plan → List Reading → List Entry → Type 0
+Legal set plan cells journal = T (legal set plan cells journal)
+
+-- the run meets no entry other than the one that it defines until the journal is used up
+abbrev pub started : Setup → Plan → List Reading → List Entry → Bool
+started set plan cells journal = kernels_run set plan (begun_by set cells journal)
+
+abbrev pub Started : Setup → Plan → List Reading → List Entry → Type 0
+Started set plan cells journal = T (started set plan cells journal)
 
 -- ---- transcripts
 

@@ -15,7 +15,9 @@ use Rattle.syntax.specs.Reads.{Reads, IsOffset}
 use Rattle.syntax.specs.Lines.{value_text, out_line, syntax_line, print_line}
 use Rattle.journal.specs.Places.{given}
 use Rattle.journal.specs.Entry.{Text, Entry}
-use Rattle.journal.specs.Core.{Setup, Recovery}
+use Rattle.journal.specs.declared.recover.Recover.{Recover}
+use Rattle.journal.specs.Core.{Setup}
+use Rattle.journal.specs.Follow.{Plan}
 use Rattle.journal.specs.Run as Run
 use Rattle.journal.specs.Run.{Reading, Unread, Line, Printed, Out, Syntax, Listed, Legal, transcript, written}
 use Rattle.journal.specs.Lines.{entry_line}
@@ -29,16 +31,15 @@ cell_names (c ∷ cs) = names_in c (lex c).tokens ++ cell_names cs
 abbrev pub script_names : List Text → List Text
 script_names texts = bases (map row_text rows ++ cell_names texts)
 
--- with so many kernels and steps, a way of recovery, and the entries that are losses
-abbrev pub setup_of : List Text → ℕ → ℕ → Recovery → List (ℕ × ℕ) → Setup
-setup_of texts kernels steps recovery plan =
+-- with so many kernels and steps, and a way of recovery
+abbrev pub setup_of : List Text → ℕ → ℕ → Recover → Setup
+setup_of texts kernels steps recovery =
     record {
       names = names_of texts;
       shown = value_text (by_texts texts) (names_of texts);
       kernels = kernels;
       limits = record { recursion = 256; iteration = 4096; steps = steps; size = 4000000; depth = 512 };
       recovery = recovery;
-      plan = plan;
     }
 
 -- ---- reading
@@ -68,9 +69,9 @@ transcript_text texts set with_journal readings journal m = given (transcript se
 -- ---- a run of a script
 
 -- the journal is one that the script and the options allow, and the bytes are those that script and journal define
-pub record Explains (kernels steps : ℕ) (recovery : Recovery) (plan : List (ℕ × ℕ)) (with_journal : Bool) (script : Text) (journal : List Entry) (bytes : Text) : Type 0 where
+pub record Explains (kernels steps : ℕ) (recovery : Recover) (plan : Plan) (with_journal : Bool) (script : Text) (journal : List Entry) (bytes : Text) : Type 0 where
   pub readings : List Reading
   pub read : AreReadings (script_names (cells script)) (cells script) readings
-  pub legal : Legal (setup_of (script_names (cells script)) kernels steps recovery plan) readings journal
+  pub legal : Legal (setup_of (script_names (cells script)) kernels steps recovery) plan readings journal
   pub bytes_written :
-      transcript_text (script_names (cells script)) (setup_of (script_names (cells script)) kernels steps recovery plan) with_journal readings journal (length readings) ≡ Some bytes
+      transcript_text (script_names (cells script)) (setup_of (script_names (cells script)) kernels steps recovery) with_journal readings journal (length readings) ≡ Some bytes

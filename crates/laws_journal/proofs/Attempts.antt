@@ -129,6 +129,7 @@ submitted : (h : Handed) (qs : List Queued) (m : ℕ) (q : Queued) → nth qs m 
 submitted Handed.Nothing qs m q e = e
 submitted (Handed.Given item b) qs m q e = there_still m qs _ q e
 submitted (Handed.Lent d) qs m q e = e
+submitted (Handed.Held vs) qs m q e = e
 
 is_submit : Event → Bool
 is_submit (Event.Submit id) = true
@@ -238,6 +239,7 @@ pin_submit : (h : Handed) (qs : List Queued) (m : ℕ) → pin_in (nth qs m) ≡
 pin_submit Handed.Nothing qs m r = r
 pin_submit (Handed.Given item b) qs m r = pin_new m qs _ (waiting_pin item) r
 pin_submit (Handed.Lent d) qs m r = r
+pin_submit (Handed.Held vs) qs m r = r
 
 pins_after : (set : Setup) (c : Core) (h : Handed) (j : ℕ) (e : Event) (m : ℕ) → permitted set c h j e ≡ true → pin_in (nth c.items m) ≡ true → pin_in (nth (items_after set c h j e) m) ≡ true
 pins_after set c h j (Event.Submit id) m ok pin = pin_submit h c.items m pin

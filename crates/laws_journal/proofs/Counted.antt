@@ -120,6 +120,7 @@ submit_counts h qs zero = refl
 submit_counts Handed.Nothing qs (suc m) = refl
 submit_counts (Handed.Given item b) qs (suc m) = appended m qs _ refl
 submit_counts (Handed.Lent d) qs (suc m) = refl
+submit_counts (Handed.Held vs) qs (suc m) = refl
 
 nothing_given : (set : Setup) (c : Core) (h : Handed) (k i : ℕ) (id : ℕ) → length (given_in set k (Event.Submit i) id (item_in c.items id)) ≡ 0
 nothing_given set c h k i id = go (item_in c.items id)

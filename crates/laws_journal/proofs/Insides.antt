@@ -9,14 +9,13 @@ use Rattle.semantics.specs.Play.{End, Reply, Play, Over, Calls, whole}
 use Rattle.semantics.specs.Opened.{opens}
 use Rattle.journal.specs.Places.{nth, change_at, given}
 use Rattle.journal.specs.Closure.{Bundle, install}
-use Rattle.journal.specs.Entry.{Event, Item, Posted, Loss}
+use Rattle.journal.specs.declared.loss.Loss.{Loss}
+use Rattle.journal.specs.Entry.{Event, Item, Posted}
 use Rattle.journal.specs.Core.{Setup, Core, in_mode, aborted, null, Kernel, new_kernel, start, locks_of, permitted, allowed, kernel_after, effect, replay_from}
-use Rattle.journal.specs.Follow.{Attempt, Wants, Delivers, Quits, attempt_of, after_quit, valued, evaluated, applications, attempt, Phase, Free, At, Lost, View, heard, item_of, moved, is_lost, is_planned, or_planned, own_entry, with_handed, watch, watch_from, first_view, kernel_run}
+use Rattle.journal.specs.Follow.{Plan, Attempt, Wants, Delivers, Quits, attempt_of, after_quit, valued, evaluated, applications, attempt, Phase, Free, At, Lost, View, heard, item_of, moved, is_lost, is_planned, or_planned, own_entry, with_handed, watch, watch_from, first_view, kernel_run}
 use Rattle.laws_journal.specs.Laws.{Ordered, wants, delivers, quits, stuck, StandsIn}
-use Rattle.laws_journal.proofs.Tables.{both, none≢some, some_is, split, apart, is_not, change_other, change_same}
+use Rattle.laws_journal.proofs.Tables.{both, none≢some, some_is, split, apart, is_not, change_other, change_same, opened, when_some}
 use Rattle.laws_journal.proofs.Tidy.{Tidy, ended, called, whole-tidy}
-use Rattle.laws_journal.proofs.Grows.{opened}
-use Rattle.laws_journal.proofs.Kept as Kept
 use Rattle.laws_journal.proofs.Views.{a_row}
 
 -- ---- attempts
@@ -80,12 +79,12 @@ goes_on (wants may next) = next
 answered : (set : Setup) (call : Call) (f : Reply → Attempt) (e : Event) (row : Kernel) (r : Reply) → TakesSome e
     → ((v : Tree) → Ordered (opens call (Reply.Replied v) (holds_some row)) (f (Reply.Replied v))) → heard set.names call e ≡ Some r → Ordered (holds_some (kernel_after e row)) (f r)
 answered set (Call.Sends (Request.Access x)) f (Event.Access y v) row r some next q =
-    subst (λ z. Ordered (holds_some row) (f z)) (some_is (Kept.when_some _ _ r q).1) (next v)
+    subst (λ z. Ordered (holds_some row) (f z)) (some_is (when_some _ _ r q).1) (next v)
 answered set (Call.Sends Request.Count) f (Event.Ask n) row r some next q = subst (λ z. Ordered (holds_some row) (f z)) (some_is q) (next _)
 answered set (Call.Sends (Request.Print t)) f (Event.Print u) row r some next q =
-    subst (λ z. Ordered (holds_some row) (f z)) (some_is (Kept.when_some _ _ r q).1) (next _)
+    subst (λ z. Ordered (holds_some row) (f z)) (some_is (when_some _ _ r q).1) (next _)
 answered set (Call.Enter ls) f (Event.Enter ms) row r some next q =
-    subst (λ z. Ordered (not (is_empty ms)) (f z)) (some_is (Kept.when_some _ _ r q).1) (subst (λ b. Ordered (not b) (f (Reply.Replied (null set.names)))) (sym some) (next (null set.names)))
+    subst (λ z. Ordered (not (is_empty ms)) (f z)) (some_is (when_some _ _ r q).1) (subst (λ b. Ordered (not b) (f (Reply.Replied (null set.names)))) (sym some) (next (null set.names)))
 answered set Call.Leave f Event.Leave row r some next q = subst (λ z. Ordered false (f z)) (some_is q) (next _)
 answered set _ f _ row r some next q = absurd (none≢some q)
 
@@ -98,7 +97,7 @@ attempt_moves set k items (At id (Wants call f)) y e row some s q =
     let t = opened (heard set.names call e) (λ reply. Some (At id (f reply))) y q in
     subst (λ z. StandsIn z (holds_some (kernel_after e row))) (some_is t.2) (answered set call f e row t.0 some (goes_on s) t.1)
 attempt_moves set k items (At id (Delivers w d)) y (Event.Deliver i u) row some s q =
-    subst (λ z. StandsIn z (holds_some row)) (some_is (Kept.when_some _ _ y q).1) (outside_at_end s)
+    subst (λ z. StandsIn z (holds_some row)) (some_is (when_some _ _ y q).1) (outside_at_end s)
 attempt_moves set k items (At id Quits) y (Event.Lose Loss.Quit) row some s q = subst (λ z. StandsIn z false) (some_is q) refl
 attempt_moves set k items (At id _) y _ row some s q = absurd (none≢some q)
 attempt_moves set k items (Free d) y _ row some s q = absurd (none≢some q)
@@ -110,46 +109,46 @@ planned_moves set k items x y true (Event.Lose Loss.Plan) row some s q = subst (
 planned_moves set k items x y true _ row some s q = absurd (none≢some q)
 planned_moves set k items x y false e row some s q = attempt_moves set k items x y e row some s q
 
-own_moves : (set : Setup) (k : ℕ) (v : View) (y : Phase) (e : Event) (row : Kernel) → TakesSome e
-    → StandsIn v.phase (holds_some row) → own_entry set k v e ≡ Some y → StandsIn y (holds_some (kernel_after e row))
-own_moves set k v y (Event.Lose Loss.NotStarted) row some s q = subst (λ z. StandsIn z false) (some_is (Kept.when_some _ _ y q).1) refl
-own_moves set k v y e row some s q = planned_moves set k v.items v.phase y (is_planned set.plan k (suc v.own)) e row some s (Kept.when_some (not (is_lost v.phase)) _ y q).1
+own_moves : (set : Setup) (plan : Plan) (k : ℕ) (v : View) (y : Phase) (e : Event) (row : Kernel) → TakesSome e
+    → StandsIn v.phase (holds_some row) → own_entry set plan k v e ≡ Some y → StandsIn y (holds_some (kernel_after e row))
+own_moves set plan k v y (Event.Lose Loss.NotStarted) row some s q = subst (λ z. StandsIn z false) (some_is (when_some _ _ y q).1) refl
+own_moves set plan k v y e row some s q = planned_moves set k v.items v.phase y (is_planned plan k (suc v.own)) e row some s (when_some (not (is_lost v.phase)) _ y q).1
 
-one_entry : (set : Setup) (k : ℕ) (c : Core) (p : Posted) (v w : View) (row : Kernel) → TakesSome p.entry.event
-    → nth c.kernels (suc k) ≡ Some row → StandsIn v.phase (holds_some row) → watch set (suc k) v p ≡ Some w
+one_entry : (set : Setup) (plan : Plan) (k : ℕ) (c : Core) (p : Posted) (v w : View) (row : Kernel) → TakesSome p.entry.event
+    → nth c.kernels (suc k) ≡ Some row → StandsIn v.phase (holds_some row) → watch set plan (suc k) v p ≡ Some w
     → (row' : Kernel) × (nth (effect set c p).kernels (suc k) ≡ Some row') × StandsIn w.phase (holds_some row')
-one_entry set k c p v w row some at s q = go (p.entry.kernel == suc k) refl q
+one_entry set plan k c p v w row some at s q = go (p.entry.kernel == suc k) refl q
   where
     e : Event
     e = p.entry.event
 
     after : Phase → View
-    after phase = record { items = with_handed p.handed v.items; own = suc v.own; phase = phase }
+    after phase = record { items = with_handed p.entry.event p.handed v.items; own = suc v.own; phase = phase }
 
     go : (b : Bool) → (p.entry.kernel == suc k) ≡ b
-        → elim b [ false ↦ Some (record v { items = with_handed p.handed v.items }) | true ↦ given (own_entry set (suc k) v e) (λ phase. Some (after phase)) ] ≡ Some w
+        → elim b [ false ↦ Some (record v { items = with_handed p.entry.event p.handed v.items }) | true ↦ given (own_entry set plan (suc k) v e) (λ phase. Some (after phase)) ] ≡ Some w
         → (row' : Kernel) × (nth (change_at p.entry.kernel (kernel_after e) c.kernels) (suc k) ≡ Some row') × StandsIn w.phase (holds_some row')
     go false b q' = (row, change_other p.entry.kernel (suc k) (kernel_after e) c.kernels (apart p.entry.kernel (suc k) b) ∙ at, subst (λ z. StandsIn z.phase (holds_some row)) (some_is q') s)
     go true b q' =
-        let t = opened (own_entry set (suc k) v e) (λ phase. Some (after phase)) w q' in (
+        let t = opened (own_entry set plan (suc k) v e) (λ phase. Some (after phase)) w q' in (
           kernel_after e row,
           subst (λ j. nth (change_at j (kernel_after e) c.kernels) (suc k) ≡ Some (kernel_after e row)) (sym (eqb-true p.entry.kernel (suc k) b)) (change_same (suc k) (kernel_after e) c.kernels row at),
-          subst (λ z. StandsIn z.phase (holds_some (kernel_after e row))) (some_is t.2) (own_moves set (suc k) v t.0 e row some s t.1),
+          subst (λ z. StandsIn z.phase (holds_some (kernel_after e row))) (some_is t.2) (own_moves set plan (suc k) v t.0 e row some s t.1),
         )
 
 abbrev Agrees : Core → ℕ → View → Type 0
 Agrees c k v = StandsIn v.phase (not (is_empty (locks_of c k)))
 
-all_entries : (set : Setup) (k : ℕ) (c z : Core) (ps : List Posted) (v w : View) (row : Kernel) → nth c.kernels (suc k) ≡ Some row → StandsIn v.phase (holds_some row)
-    → replay_from set c ps ≡ Some z → watch_from set (suc k) v ps ≡ Some w → Agrees z (suc k) w
-all_entries set k c z [] v w row at s r q =
+all_entries : (set : Setup) (plan : Plan) (k : ℕ) (c z : Core) (ps : List Posted) (v w : View) (row : Kernel) → nth c.kernels (suc k) ≡ Some row → StandsIn v.phase (holds_some row)
+    → replay_from set c ps ≡ Some z → watch_from set plan (suc k) v ps ≡ Some w → Agrees z (suc k) w
+all_entries set plan k c z [] v w row at s r q =
     subst (λ y. Agrees z (suc k) y) (some_is q) (subst (λ x. Agrees x (suc k) v) (some_is r) (subst (λ o. StandsIn v.phase (not (is_empty (elim o [ None ↦ [] | Some x ↦ x.locks ])))) (sym at) s))
-all_entries set k c z (p ∷ ps) v w row at s r q =
+all_entries set plan k c z (p ∷ ps) v w row at s r q =
     let parts = split (allowed set c p) (replay_from set (effect set c p) ps) z r in
-    let t = opened (watch set (suc k) v p) (λ u. watch_from set (suc k) u ps) w q in
-    let n = one_entry set k c p v t.0 row (takes_some set c p parts.0) at s t.1 in
-    all_entries set k (effect set c p) z ps t.0 w n.0 n.1 n.2 parts.1 t.2
+    let t = opened (watch set plan (suc k) v p) (λ u. watch_from set plan (suc k) u ps) w q in
+    let n = one_entry set plan k c p v t.0 row (takes_some set c p parts.0) at s t.1 in
+    all_entries set plan k (effect set c p) z ps t.0 w n.0 n.1 n.2 parts.1 t.2
 
-pub locks_agree : (set : Setup) (k : ℕ) (ps : List Posted) (c : Core) (v : View) → suc k ≤ set.kernels
-    → replay_from set (start set) ps ≡ Some c → kernel_run set (suc k) ps ≡ Some v → Agrees c (suc k) v
-locks_agree set k ps c v h r q = all_entries set k (start set) c ps first_view v (new_kernel true) (a_row set.kernels k h) refl r q
+pub locks_agree : (set : Setup) (plan : Plan) (k : ℕ) (ps : List Posted) (c : Core) (v : View) → suc k ≤ set.kernels
+    → replay_from set (start set) ps ≡ Some c → kernel_run set plan (suc k) ps ≡ Some v → Agrees c (suc k) v
+locks_agree set plan k ps c v h r q = all_entries set plan k (start set) c ps first_view v (new_kernel true) (a_row set.kernels k h) refl r q

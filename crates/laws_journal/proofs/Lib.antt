@@ -1,4 +1,5 @@
 mod Tables
+mod Courses
 mod Apart
 mod Counted
 mod Grows
@@ -15,3 +16,7 @@ mod Cutting
 mod Tidy
 mod Insides
 mod StandIn
+mod Quieted
+mod Seen
+mod Composed
+mod Emptied

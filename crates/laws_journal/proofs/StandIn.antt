@@ -4,10 +4,9 @@ use Rattle.std.specs.Prelude.{◌&&◌, not, ◌==◌, ◌≤◌}
 use Rattle.journal.specs.Places.{nth, change_at, given}
 use Rattle.journal.specs.Entry.{Event, Posted}
 use Rattle.journal.specs.Core.{Setup, Core, Kernel, new_kernel, start, attempt_of, permitted, allowed, kernel_after, effect, replay_from}
-use Rattle.journal.specs.Follow.{Phase, Free, At, Lost, View, stand_in_entry, with_handed, watch, watch_from, first_view, kernel_run}
+use Rattle.journal.specs.Follow.{Plan, Phase, Free, At, Lost, View, stand_in_entry, with_handed, watch, watch_from, first_view, kernel_run}
 use Rattle.laws_journal.specs.Laws.{Matches}
-use Rattle.laws_journal.proofs.Tables.{both, some_is, split, apart, change_other, change_same}
-use Rattle.laws_journal.proofs.Grows.{opened}
+use Rattle.laws_journal.proofs.Tables.{both, some_is, split, apart, change_other, change_same, opened}
 use Rattle.laws_journal.proofs.Forced.{Synced}
 use Rattle.laws_journal.proofs.Unique.{attempt_after}
 use Rattle.laws_journal.proofs.Views.{phase_is_attempt}
@@ -20,18 +19,18 @@ matched Lost o h = absurd h
 abbrev attempt_in : Option Kernel → Option ℕ
 attempt_in o = elim o [ None ↦ None | Some x ↦ x.attempt ]
 
-one_entry : (set : Setup) (c : Core) (p : Posted) (v w : View) (row : Kernel) → allowed set c p ≡ true → nth c.kernels 0 ≡ Some row → Synced v.phase row.attempt → watch set 0 v p ≡ Some w
+one_entry : (set : Setup) (plan : Plan) (c : Core) (p : Posted) (v w : View) (row : Kernel) → allowed set c p ≡ true → nth c.kernels 0 ≡ Some row → Synced v.phase row.attempt → watch set plan 0 v p ≡ Some w
     → (row' : Kernel) × (nth (effect set c p).kernels 0 ≡ Some row') × Synced w.phase row'.attempt
-one_entry set c p v w row ok at s q = go (p.entry.kernel == 0) refl q
+one_entry set plan c p v w row ok at s q = go (p.entry.kernel == 0) refl q
   where
     e : Event
     e = p.entry.event
 
     after : Phase → View
-    after phase = record { items = with_handed p.handed v.items; own = suc v.own; phase = phase }
+    after phase = record { items = with_handed p.entry.event p.handed v.items; own = suc v.own; phase = phase }
 
     go : (b : Bool) → (p.entry.kernel == 0) ≡ b
-        → elim b [ false ↦ Some (record v { items = with_handed p.handed v.items }) | true ↦ given (stand_in_entry set v v.phase e) (λ phase. Some (after phase)) ] ≡ Some w
+        → elim b [ false ↦ Some (record v { items = with_handed p.entry.event p.handed v.items }) | true ↦ given (stand_in_entry set v v.phase e) (λ phase. Some (after phase)) ] ≡ Some w
         → (row' : Kernel) × (nth (change_at p.entry.kernel (kernel_after e) c.kernels) 0 ≡ Some row') × Synced w.phase row'.attempt
     go false b q' = (row, change_other p.entry.kernel 0 (kernel_after e) c.kernels (apart p.entry.kernel 0 b) ∙ at, subst (λ z. Synced z.phase row.attempt) (some_is q') s)
     go true b q' =
@@ -43,17 +42,17 @@ one_entry set c p v w row ok at s q = go (p.entry.kernel == 0) refl q
           subst (λ z. Synced z.phase (kernel_after e row).attempt) (some_is t.2) (attempt_after set c p.handed v v.phase t.0 e row permits s t.1),
         )
 
-all_entries : (set : Setup) (c z : Core) (ps : List Posted) (v w : View) (row : Kernel) → nth c.kernels 0 ≡ Some row → Synced v.phase row.attempt
-    → replay_from set c ps ≡ Some z → watch_from set 0 v ps ≡ Some w → Synced w.phase (attempt_of z 0)
-all_entries set c z [] v w row at s r q =
+all_entries : (set : Setup) (plan : Plan) (c z : Core) (ps : List Posted) (v w : View) (row : Kernel) → nth c.kernels 0 ≡ Some row → Synced v.phase row.attempt
+    → replay_from set c ps ≡ Some z → watch_from set plan 0 v ps ≡ Some w → Synced w.phase (attempt_of z 0)
+all_entries set plan c z [] v w row at s r q =
     subst (λ y. Synced y.phase (attempt_of z 0)) (some_is q) (subst (λ x. Synced v.phase (attempt_of x 0)) (some_is r) (subst (Synced v.phase) (sym (ap attempt_in at)) s))
-all_entries set c z (p ∷ ps) v w row at s r q =
+all_entries set plan c z (p ∷ ps) v w row at s r q =
     let parts = split (allowed set c p) (replay_from set (effect set c p) ps) z r in
-    let t = opened (watch set 0 v p) (λ u. watch_from set 0 u ps) w q in
-    let n = one_entry set c p v t.0 row parts.0 at s t.1 in
-    all_entries set (effect set c p) z ps t.0 w n.0 n.1 n.2 parts.1 t.2
+    let t = opened (watch set plan 0 v p) (λ u. watch_from set plan 0 u ps) w q in
+    let n = one_entry set plan c p v t.0 row parts.0 at s t.1 in
+    all_entries set plan (effect set c p) z ps t.0 w n.0 n.1 n.2 parts.1 t.2
 
-pub each_phase_is_attempt : (set : Setup) (k : ℕ) (ps : List Posted) (c : Core) (v : View) → k ≤ set.kernels
-    → replay_from set (start set) ps ≡ Some c → kernel_run set k ps ≡ Some v → Matches v.phase (attempt_of c k)
-each_phase_is_attempt set zero ps c v h r q = matched v.phase (attempt_of c 0) (all_entries set (start set) c ps first_view v (new_kernel false) refl refl r q)
-each_phase_is_attempt set (suc k) ps c v h r q = phase_is_attempt set k ps c v h r q
+pub each_phase_is_attempt : (set : Setup) (plan : Plan) (k : ℕ) (ps : List Posted) (c : Core) (v : View) → k ≤ set.kernels
+    → replay_from set (start set) ps ≡ Some c → kernel_run set plan k ps ≡ Some v → Matches v.phase (attempt_of c k)
+each_phase_is_attempt set plan zero ps c v h r q = matched v.phase (attempt_of c 0) (all_entries set plan (start set) c ps first_view v (new_kernel false) refl refl r q)
+each_phase_is_attempt set plan (suc k) ps c v h r q = phase_is_attempt set plan k ps c v h r q

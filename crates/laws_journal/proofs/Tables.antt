@@ -7,7 +7,7 @@ use Rattle.std.specs.Ordering.{is_eq, nat_cmp, ordering_then}
 use Rattle.std.specs.Cmp.{ranked}
 use Rattle.expr_tree.specs.declared.sym.Sym.{Sym}
 use Rattle.expr_tree.specs.Order.{symbol_cmp, same_symbol}
-use Rattle.journal.specs.Places.{nth, change_at, each_from, is_some}
+use Rattle.journal.specs.Places.{nth, change_at, each_from, is_some, given, when}
 
 pub both : (a b : Bool) → (a && b) ≡ true → (a ≡ true) × (b ≡ true)
 both true true e = (refl, refl)
@@ -34,6 +34,14 @@ none≢some e = true≢false (sym (ap is_some e))
 
 pub some_is : {A : Type 0} {a b : A} → ◌≡◌ {A = Option A} (Some a) (Some b) → a ≡ b
 some_is {a = a} e = ap (λ o. elim o [ None ↦ a | Some x ↦ x ]) e
+
+pub opened : {A B : Type 0} (o : Option A) (k : A → Option B) (b : B) → given o k ≡ Some b → (a : A) × (o ≡ Some a) × (k a ≡ Some b)
+opened None k b e = absurd (none≢some e)
+opened (Some a) k b e = (a, refl, e)
+
+pub when_some : {A : Type 0} (b : Bool) (o : Option A) (a : A) → when b o ≡ Some a → (b ≡ true) × (o ≡ Some a)
+when_some true o a e = (refl, e)
+when_some false o a e = absurd (none≢some e)
 
 -- what was allowed
 pub split : {A : Type 0} (b : Bool) (x : Option A) (y : A) → elim b [ true ↦ x | false ↦ None ] ≡ Some y → (b ≡ true) × (x ≡ Some y)

@@ -5,6 +5,7 @@
 --     AttemptsAgree, PhaseIsAttempt                 attempts of the core, items and kernels
 --     AttemptsOrdered, LocksAgree                   sections of attempts, and the locks of the core
 --     ClosureIsLeast, CutsPartition                 what is computed of definitions and of lists
+--     QuietComputed, QuietNamedComputed             and of applications
 use Rattle.std.specs.Prelude.{◌≡◌, ℕ, zero, suc, ◌≤◌, List, [], ◌∷◌, ◌++◌, length, Bool, true, false, not, T, Option, Some, None}
 use Rattle.expr_tree.specs.declared.sym.Sym.{Sym}
 use Rattle.expr_tree.specs.Tree.{Tree}
@@ -18,9 +19,10 @@ use Rattle.journal.specs.Closure.{InClosure, reaches, closure}
 use Rattle.journal.specs.Cuts.{Method, Per, cut}
 use Rattle.journal.specs.Entry.{Wait, Event, Entry, Item, Posted}
 use Rattle.journal.specs.Core.{Setup, Core, start, allowed, step, replay, attempt_of, holds_nothing, status_of, runs_or_dropped}
-use Rattle.journal.specs.Follow.{Attempt, Wants, Delivers, Quits, Stuck, attempt, View, Phase, Free, At, Lost, watch, kernel_run}
+use Rattle.journal.specs.Follow.{Plan, Attempt, Wants, Delivers, Quits, Stuck, attempt, View, Phase, Free, At, Lost, watch, kernel_run}
 use Rattle.journal.specs.Spans.{sections, NeverOverlap, results}
-use Rattle.journal.specs.Run.{Reading, Legal, Walk, Answered, Ran, answer, Finish, play_along, run_cells, posted_by}
+use Rattle.journal.specs.Quiet.{IsQuiet, quiet_value, IsQuietNamed, quiet_named_value}
+use Rattle.journal.specs.Run.{Reading, Legal, Walk, Goes, Answered, Ran, answer, Finish, play_along, run_cells, posted_by}
 
 -- two sections that share a lock never overlap
 abbrev pub SectionsApart : Type 0
@@ -40,7 +42,7 @@ AllHaveResults =
 -- with no kernels a script has at most one journal
 abbrev pub OneJournal : Type 0
 OneJournal =
-    (set : Setup) (cells : List Reading) (h j : List Entry) → set.kernels ≡ 0 → Legal set cells h → Legal set cells j → h ≡ j
+    (set : Setup) (plan : Plan) (cells : List Reading) (h j : List Entry) → set.kernels ≡ 0 → Legal set plan cells h → Legal set plan cells j → h ≡ j
 
 -- ---- longer journals
 
@@ -56,9 +58,9 @@ longer_ran further ran = record ran { walk = longer further ran.walk }
 -- a call, a whole evaluation, and a list of cells use up entries from the front, and do not look beyond those
 abbrev pub RunGrows : Type 0
 RunGrows =
-    ((set : Setup) (c : Call) (d : Definitions) (w : Walk) (further : List Entry) (a : Answered) → answer set c d w ≡ Some a → answer set c d (longer further w) ≡ Some (longer_answer further a))
-    × ((set : Setup) (t : Play) (w : Walk) (further : List Entry) (r : Finish × Walk) → play_along set t w ≡ Some r → play_along set t (longer further w) ≡ Some (r.0, longer further r.1))
-    × ((set : Setup) (n : ℕ) (cells : List Reading) (ran : Ran) (further : List Entry) (r : Ran) → run_cells set n cells ran ≡ Some r → run_cells set n cells (longer_ran further ran) ≡ Some (longer_ran further r))
+    ((set : Setup) (c : Call) (d : Definitions) (w : Walk) (further : List Entry) (a : Answered) → answer set c d w ≡ Goes a → answer set c d (longer further w) ≡ Goes (longer_answer further a))
+    × ((set : Setup) (t : Play) (w : Walk) (further : List Entry) (r : Finish × Walk) → play_along set t w ≡ Goes r → play_along set t (longer further w) ≡ Goes (r.0, longer further r.1))
+    × ((set : Setup) (n : ℕ) (cells : List Reading) (ran : Ran) (further : List Entry) (r : Ran) → run_cells set n cells ran ≡ Goes r → run_cells set n cells (longer_ran further ran) ≡ Goes (longer_ran further r))
 
 -- ---- legal journals
 
@@ -78,7 +80,7 @@ LegalReplays =
 abbrev pub EntryByEntry : Type 0
 EntryByEntry =
     ((set : Setup) (ps : List Posted) (p : Posted) (c : Core) → replay set ps ≡ Some c → replay set (ps ++ p ∷ []) ≡ step set c p)
-    × ((set : Setup) (k : ℕ) (ps : List Posted) (p : Posted) (v : View) → kernel_run set k ps ≡ Some v → kernel_run set k (ps ++ p ∷ []) ≡ watch set k v p)
+    × ((set : Setup) (plan : Plan) (k : ℕ) (ps : List Posted) (p : Posted) (v : View) → kernel_run set plan k ps ≡ Some v → kernel_run set plan k (ps ++ p ∷ []) ≡ watch set plan k v p)
 
 -- whoever has an attempt at an item runs it, or it was dropped
 abbrev pub AttemptsAgree : Type 0
@@ -94,7 +96,7 @@ Matches Lost o = o ≡ None
 -- a kernel, or with 0 the stand-in, that follows its evaluations has the attempt that it is in
 abbrev pub PhaseIsAttempt : Type 0
 PhaseIsAttempt =
-    (set : Setup) (k : ℕ) (ps : List Posted) (c : Core) (v : View) → k ≤ set.kernels → replay set ps ≡ Some c → kernel_run set k ps ≡ Some v → Matches v.phase (attempt_of c k)
+    (set : Setup) (plan : Plan) (k : ℕ) (ps : List Posted) (c : Core) (v : View) → k ≤ set.kernels → replay set ps ≡ Some c → kernel_run set plan k ps ≡ Some v → Matches v.phase (attempt_of c k)
 
 -- ---- what an item takes with it
 
@@ -147,5 +149,20 @@ StandsIn Lost inside = inside ≡ false
 -- a kernel that follows its evaluations holds locks exactly where its attempt is inside a section
 abbrev pub LocksAgree : Type 0
 LocksAgree =
-    (set : Setup) (k : ℕ) (ps : List Posted) (c : Core) (v : View) → suc k ≤ set.kernels → replay set ps ≡ Some c → kernel_run set (suc k) ps ≡ Some v
+    (set : Setup) (plan : Plan) (k : ℕ) (ps : List Posted) (c : Core) (v : View) → suc k ≤ set.kernels → replay set ps ≡ Some c → kernel_run set plan (suc k) ps ≡ Some v
     → StandsIn v.phase (not (holds_nothing c (suc k)))
+
+-- ---- quiet applications
+
+-- what is computed of an application is its value where it is quiet, and nothing elsewhere
+abbrev pub QuietComputed : Type 0
+QuietComputed =
+    (set : Setup) (d : Definitions) (a : Tree)
+    → ((value : Tree) → quiet_value set d a ≡ Some value → (quiet : IsQuiet set d a) × (quiet.value ≡ value)) × ((quiet : IsQuiet set d a) → quiet_value set d a ≡ Some quiet.value)
+
+-- and where it is quiet but for generated names
+abbrev pub QuietNamedComputed : Type 0
+QuietNamedComputed =
+    (set : Setup) (d : Definitions) (a : Tree)
+    → ((value : Tree) → quiet_named_value set d a ≡ Some value → (quiet : IsQuietNamed set d a) × (quiet.value ≡ value))
+    × ((quiet : IsQuietNamed set d a) → quiet_named_value set d a ≡ Some quiet.value)

@@ -3,7 +3,9 @@
 //! law.
 #![tactic(auto)]
 
-ghost use Rattle.laws_journal.specs.Laws.{SectionsApart, OneResult, AllHaveResults, RunGrows, LegalReplays, OneJournal, EntryByEntry, AttemptsAgree, PhaseIsAttempt, ClosureIsLeast, CutsPartition, AttemptsOrdered, LocksAgree};
+ghost use Rattle.laws_journal.specs.Laws.{SectionsApart, OneResult, AllHaveResults, RunGrows, LegalReplays, OneJournal, EntryByEntry, AttemptsAgree, PhaseIsAttempt, ClosureIsLeast, CutsPartition, AttemptsOrdered, LocksAgree, QuietComputed, QuietNamedComputed};
+ghost use Rattle.laws_journal.specs.Runs.{BegunReplays, CellsJoin, LegalComposed, LegalStarted, RunPosts, UsedUpStays};
+ghost use Rattle.laws_journal.specs.Views.{HandedNeeded, ItemsAgree, ItemsStay, LivesUnlessLost, OthersPass, OwnCounted};
 
 /// Two sections that share a lock never overlap, in whatever is a replay.
 pub fn sections_never_overlap()
@@ -68,4 +70,62 @@ pub fn attempts_are_ordered()
 /// A kernel that follows its evaluations holds locks, in the core, exactly where its attempt is inside a section.
 pub fn locks_are_the_section()
     ensures law { LocksAgree }
+{}
+
+/// `quiet_value` is the value of an application that is quiet, and there is none of another.
+pub fn quiet_values_are_computed()
+    ensures law { QuietComputed }
+{}
+
+/// `quiet_named_value` is that of an application that is quiet but for generated names.
+pub fn quiet_named_values_are_computed()
+    ensures law { QuietNamedComputed }
+{}
+
+/// What is handed in counts at Submit and at Yield alone: the versions that a kernel holds change nothing.
+pub fn handed_in_where_needed()
+    ensures law { HandedNeeded }
+{}
+
+/// The items of the core are those that each kernel has seen, in order.
+pub fn items_agree_with_views()
+    ensures law { ItemsAgree }
+{}
+
+/// Entries of others pass by: a kernel sees their items, and stands where it stood.
+pub fn others_pass_by()
+    ensures law { OthersPass }
+    ensures items { ItemsStay }
+{}
+
+/// A kernel's own count is that of its entries.
+pub fn own_entries_are_counted()
+    ensures law { OwnCounted }
+{}
+
+/// A kernel lives unless its view is lost.
+pub fn kernels_live_unless_lost()
+    ensures law { LivesUnlessLost }
+{}
+
+/// What a run posted, and what it left, are the journal; so it is where the journal is used up before the end.
+pub fn runs_post_the_journal()
+    ensures law { RunPosts }
+    ensures begun { BegunReplays }
+{}
+
+/// A legal journal is composed of the losses in front, the cells, Close, and each kernel's run.
+pub fn legal_journals_are_composed()
+    ensures law { LegalComposed }
+    ensures started { LegalStarted }
+{}
+
+/// A run over cells is the run over the first of them, and then over the others.
+pub fn cells_are_run_in_turn()
+    ensures law { CellsJoin }
+{}
+
+/// Where no entry is left, a run meets none that is another.
+pub fn used_up_journals_stay_so()
+    ensures law { UsedUpStays }
 {}

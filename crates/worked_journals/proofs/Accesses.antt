@@ -29,11 +29,11 @@ two_items_journal =
     ∷ by 0 Event.Close
     ∷ []
 
-two_items_legal : legal (setup 0 []) two_items two_items_journal ≡ true
+two_items_legal : legal (setup 0) [] two_items two_items_journal ≡ true
 unfolding two_items two_items_journal row worked
 two_items_legal = refl
 
-two_items_lines : transcript (setup 0 []) false two_items two_items_journal 4 ≡ Some (Out 1 (int 0) ∷ Out 3 (list (int 0 ∷ int 1 ∷ [])) ∷ Out 4 (int 2) ∷ [])
+two_items_lines : transcript (setup 0) false two_items two_items_journal 4 ≡ Some (Out 1 (int 0) ∷ Out 3 (list (int 0 ∷ int 1 ∷ [])) ∷ Out 4 (int 2) ∷ [])
 unfolding two_items two_items_journal row worked
 two_items_lines = refl
 
@@ -53,20 +53,20 @@ updated_with between =
     ∷ between ++ by 0 Event.Resume ∷ by 0 Event.Close ∷ []
 
 -- both read 0: one update is lost
-lost_update : transcript (setup 2 []) false updated
+lost_update : transcript (setup 2) false updated
     (updated_with (read 1 0 ∷ read 2 0 ∷ write 1 1 ∷ write 2 1 ∷ by 1 (Event.Deliver 1 (list (int 1 ∷ []))) ∷ by 2 (Event.Deliver 2 (list (int 1 ∷ []))) ∷ [])) 4
     ≡ Some (Out 1 (int 0) ∷ Out 4 (int 1) ∷ [])
 unfolding updated updated_with row
 lost_update = refl
 
-lost_update_legal : legal (setup 2 []) updated
+lost_update_legal : legal (setup 2) [] updated
     (updated_with (read 1 0 ∷ read 2 0 ∷ write 1 1 ∷ write 2 1 ∷ by 1 (Event.Deliver 1 (list (int 1 ∷ []))) ∷ by 2 (Event.Deliver 2 (list (int 1 ∷ []))) ∷ []))
     ≡ true
 unfolding updated updated_with row worked
 lost_update_legal = refl
 
 -- an access that no evaluation makes
-invented : legal (setup 2 []) updated
+invented : legal (setup 2) [] updated
     (updated_with (read 1 0 ∷ read 1 0 ∷ read 2 0 ∷ write 1 1 ∷ write 2 1 ∷ by 1 (Event.Deliver 1 (list (int 1 ∷ []))) ∷ by 2 (Event.Deliver 2 (list (int 1 ∷ []))) ∷ []))
     ≡ false
 unfolding updated updated_with row worked
@@ -95,11 +95,11 @@ shared_journal =
     ∷ by 0 (Event.Submit 2) ∷ by 0 (Event.Yield (Wait.All (2 ∷ []))) ∷ by 1 (Event.Take 2) ∷ by 1 (Event.Deliver 2 (list (int 7 ∷ int 7 ∷ int 7 ∷ []))) ∷ by 0 Event.Resume
     ∷ by 0 Event.Close ∷ []
 
-shared_legal : legal (setup 1 []) shared shared_journal ≡ true
+shared_legal : legal (setup 1) [] shared shared_journal ≡ true
 unfolding shared shared_journal row worked matches
 shared_legal = refl
 
-shared_lines : transcript (setup 1 []) false shared shared_journal 4 ≡ Some (Out 3 (int 9) ∷ Out 4 (list (int 7 ∷ int 7 ∷ int 7 ∷ [])) ∷ [])
+shared_lines : transcript (setup 1) false shared shared_journal 4 ≡ Some (Out 3 (int 9) ∷ Out 4 (list (int 7 ∷ int 7 ∷ int 7 ∷ [])) ∷ [])
 unfolding shared shared_journal row worked matches
 shared_lines = refl
 

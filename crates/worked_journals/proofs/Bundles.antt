@@ -31,6 +31,6 @@ bundled_journal =
     ∷ by 0 (Event.Submit 2) ∷ by 0 (Event.Yield (Wait.All (2 ∷ []))) ∷ by 0 (Event.Take 2) ∷ by 0 (Event.Deliver 2 (int 5)) ∷ by 0 Event.Resume
     ∷ by 0 Event.Close ∷ []
 
-bundled_legal : legal (setup 0 []) bundled bundled_journal ≡ true
+bundled_legal : legal (setup 0) [] bundled bundled_journal ≡ true
 unfolding bundled bundled_journal row worked matches
 bundled_legal = refl

@@ -5,13 +5,14 @@ use Rattle.expr_tree.specs.Tree.{Tree}
 use Rattle.semantics.specs.Definitions.{empty}
 use Rattle.journal.specs.Places.{given}
 use Rattle.journal.specs.Closure.{bundle, symbols_of}
-use Rattle.journal.specs.Entry.{Event, Wait, Loss, Item, Handed, Posted}
+use Rattle.journal.specs.declared.loss.Loss.{Loss}
+use Rattle.journal.specs.Entry.{Event, Wait, Item, Handed, Posted}
 use Rattle.journal.specs.Core.{Setup, Core, start, step, replay, wait_reply}
 use Rattle.journal.specs.Spans.{sections, results}
 use Rattle.worked_journals.proofs.Script.{setup, names, sym, int, by}
 
 abbrev two : Setup
-two = setup 2 []
+two = setup 2
 
 abbrev a' : Sym
 a' = record { base = 1000; number = 0 }

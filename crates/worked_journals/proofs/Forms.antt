@@ -32,20 +32,20 @@ squares_other : List Entry
 squares_other =
     squares_begun ++ by 2 (Event.Take 1) ∷ by 1 (Event.Take 2) ∷ by 1 (Event.Deliver 2 (list (int 9 ∷ []))) ∷ by 2 (Event.Deliver 1 (list (int 1 ∷ int 4 ∷ []))) ∷ squares_ended
 
-squares_legal : legal (setup 2 []) squares squares_in_order ≡ true
+squares_legal : legal (setup 2) [] squares squares_in_order ≡ true
 unfolding squares squares_begun squares_ended squares_in_order row worked matches
 squares_legal = refl
 
-squares_legal_too : legal (setup 2 []) squares squares_other ≡ true
+squares_legal_too : legal (setup 2) [] squares squares_other ≡ true
 unfolding squares squares_begun squares_ended squares_other row worked matches
 squares_legal_too = refl
 
 -- place order, whatever the interleaving
-squares_lines : transcript (setup 2 []) false squares squares_in_order 2 ≡ Some (Out 2 (list (int 1 ∷ int 4 ∷ int 9 ∷ [])) ∷ [])
+squares_lines : transcript (setup 2) false squares squares_in_order 2 ≡ Some (Out 2 (list (int 1 ∷ int 4 ∷ int 9 ∷ [])) ∷ [])
 unfolding squares squares_begun squares_ended squares_in_order row worked
 squares_lines = refl
 
-squares_lines_too : transcript (setup 2 []) false squares squares_other 2 ≡ Some (Out 2 (list (int 1 ∷ int 4 ∷ int 9 ∷ [])) ∷ [])
+squares_lines_too : transcript (setup 2) false squares squares_other 2 ≡ Some (Out 2 (list (int 1 ∷ int 4 ∷ int 9 ∷ [])) ∷ [])
 unfolding squares squares_begun squares_ended squares_other row worked
 squares_lines_too = refl
 
@@ -64,11 +64,11 @@ tried_journal =
     ∷ by 1 (Event.Take 1) ∷ by 2 (Event.Take 2) ∷ by 1 (Event.Deliver 1 failed') ∷ by 1 (Event.Take 3) ∷ by 1 (Event.Deliver 3 (int 3))
     ∷ by 0 Event.Resume ∷ by 0 Event.Close ∷ []
 
-tried_legal : legal (setup 2 []) tried tried_journal ≡ true
+tried_legal : legal (setup 2) [] tried tried_journal ≡ true
 unfolding tried tried_journal row worked
 tried_legal = refl
 
-tried_lines : transcript (setup 2 []) false tried tried_journal 1 ≡ Some (Out 1 (int 3) ∷ [])
+tried_lines : transcript (setup 2) false tried tried_journal 1 ≡ Some (Out 1 (int 3) ∷ [])
 unfolding tried tried_journal row worked
 tried_lines = refl
 
@@ -89,12 +89,12 @@ next_journal =
     ∷ by 0 (Event.Yield (Wait.All (1 ∷ 2 ∷ []))) ∷ by 0 (Event.Take 2) ∷ by 0 (Event.Deliver 2 (int 4)) ∷ by 0 Event.Resume
     ∷ by 0 Event.Close ∷ []
 
-next_legal : legal (setup 0 []) next next_journal ≡ true
+next_legal : legal (setup 0) [] next next_journal ≡ true
 unfolding next next_journal row worked
 next_legal = refl
 
 next_lines :
-    transcript (setup 0 []) false next next_journal 3
+    transcript (setup 0) false next next_journal 3
     ≡ Some (Out 1 (list (object 1 ∷ object 2 ∷ [])) ∷ Out 2 (list (int 2 ∷ object 1 ∷ list (object 2 ∷ []) ∷ [])) ∷ Out 3 (list (int 2 ∷ int 4 ∷ [])) ∷ [])
 unfolding next next_journal row worked
 next_lines = refl
@@ -104,7 +104,7 @@ combined : List Reading
 combined = reads (of Builtin.ParallelCombine (name names Builtin.Length ∷ list (sym 0 ∷ sym 1 ∷ sym 2 ∷ sym 3 ∷ sym 4 ∷ []) ∷ name names Builtin.List ∷ []) ∷ [])
 
 combined_lines :
-    transcript (setup 2 []) false combined (
+    transcript (setup 2) false combined (
     by 0 (Event.Submit 1) ∷ by 0 (Event.Submit 2) ∷ by 0 (Event.Yield (Wait.All (1 ∷ 2 ∷ [])))
     ∷ by 2 (Event.Take 1) ∷ by 2 (Event.Deliver 1 (int 3)) ∷ by 2 (Event.Take 2) ∷ by 2 (Event.Deliver 2 (int 2)) ∷ by 0 Event.Resume ∷ by 0 Event.Close ∷ []) 1
     ≡ Some (Out 1 (list (int 3 ∷ int 2 ∷ [])) ∷ [])
@@ -127,7 +127,7 @@ loops =
     j = sym 14
 
 loops_lines :
-    transcript (setup 0 []) false loops (
+    transcript (setup 0) false loops (
     alone_at 1 (list (int 3 ∷ int 6 ∷ []))
     ++ alone_at 2 (list (list (int 2 ∷ int 3 ∷ []) ∷ list (int 3 ∷ int 4 ∷ []) ∷ []))
     ++ alone_at 3 (list (int 1 ∷ int 2 ∷ int 3 ∷ int 4 ∷ [])) ++ by 0 Event.Close ∷ []) 3
@@ -146,7 +146,7 @@ maps =
     ∷ [])
 
 maps_lines :
-    transcript (setup 0 []) false maps (
+    transcript (setup 0) false maps (
     by 0 (Event.Submit 1) ∷ by 0 (Event.Submit 2) ∷ by 0 (Event.Yield (Wait.All (1 ∷ 2 ∷ [])))
     ∷ by 0 (Event.Take 1) ∷ by 0 (Event.Deliver 1 (list (call f' (int 1 ∷ []) ∷ []))) ∷ by 0 (Event.Take 2) ∷ by 0 (Event.Deliver 2 (list (call f' (int 2 ∷ []) ∷ [])))
     ∷ by 0 Event.Resume ∷ by 0 Event.Close ∷ []) 4

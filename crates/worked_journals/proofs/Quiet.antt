@@ -13,11 +13,11 @@ use Rattle.journal.specs.Quiet.{IsQuiet, by_itself, alone}
 use Rattle.worked_journals.proofs.Script.{setup, int, of, f', x'}
 
 -- Mod[7, 4] is quiet: it gives 3 wherever it is evaluated
-quiet_mod : IsQuiet (setup 0 []) empty (of Builtin.Mod (int 7 ∷ int 4 ∷ []))
+quiet_mod : IsQuiet (setup 0) empty (of Builtin.Mod (int 7 ∷ int 4 ∷ []))
 unfolding eval row worked
 quiet_mod = record { small = omega arith; flat = omega arith; value = int 3; gives = refl; keeps = refl; unused = refl }
 
-alone_mod : alone (setup 0 []) empty (of Builtin.Mod (int 7 ∷ int 4 ∷ []) ∷ []) ≡ int 3 ∷ []
+alone_mod : alone (setup 0) empty (of Builtin.Mod (int 7 ∷ int 4 ∷ []) ∷ []) ≡ int 3 ∷ []
 unfolding eval row worked
 alone_mod = refl
 
@@ -30,16 +30,16 @@ square = of Builtin.SetDelayed (at (of Builtin.Pattern (x' ∷ of Builtin.Blank 
 
 -- the master's definitions after the first cell
 abbrev known : Definitions
-known = (eval (in_mode (setup 0 []) Mode.Cell 0) empty square []).definitions
+known = (eval (in_mode (setup 0) Mode.Cell 0) empty square []).definitions
 
-quiet_value : (by_itself (setup 0 []) known (at (int 3))).outcome ≡ Outcome.Ended (End.Value (int 9))
+quiet_value : (by_itself (setup 0) known (at (int 3))).outcome ≡ Outcome.Ended (End.Value (int 9))
 unfolding eval row worked matches
 quiet_value = refl
 
-quiet_unused : (by_itself (setup 0 []) known (at (int 3))).used ≡ false
+quiet_unused : (by_itself (setup 0) known (at (int 3))).used ≡ false
 unfolding eval row worked matches
 quiet_unused = refl
 
-alone_squares : alone (setup 0 []) known (at (int 1) ∷ at (int 2) ∷ []) ≡ int 1 ∷ int 4 ∷ []
+alone_squares : alone (setup 0) known (at (int 1) ∷ at (int 2) ∷ []) ≡ int 1 ∷ int 4 ∷ []
 unfolding eval row worked matches
 alone_squares = refl

@@ -4,7 +4,8 @@ use Rattle.expr_tree.specs.Tree.{Tree, call}
 use Rattle.semantics.specs.declared.builtin.Builtin.{Builtin}
 use Rattle.semantics.specs.Names.{name}
 use Rattle.semantics.specs.Table.{row, worked}
-use Rattle.journal.specs.Entry.{Entry, Event, Wait, Loss}
+use Rattle.journal.specs.declared.loss.Loss.{Loss}
+use Rattle.journal.specs.Entry.{Entry, Event, Wait}
 use Rattle.journal.specs.Run.{Reading, Out, legal, transcript}
 use Rattle.worked_journals.proofs.Script.{setup, abandoning, names, int, list, of, equals, by, reads, n', f', failed', aborted', increment, share, submit, wait_all, then}
 
@@ -27,21 +28,21 @@ counted_again second =
     ∷ by 0 Event.Close
     ∷ []
 
-retried_legal : legal (setup 1 ((1, 3) ∷ [])) counted (counted_again (int 1)) ≡ true
+retried_legal : legal (setup 1) ((1, 3) ∷ []) counted (counted_again (int 1)) ≡ true
 unfolding counted counted_again row worked
 retried_legal = refl
 
-retried_lines : transcript (setup 1 ((1, 3) ∷ [])) false counted (counted_again (int 1)) 4 ≡ Some (Out 1 (int 0) ∷ Out 3 (int 7) ∷ Out 4 (int 2) ∷ [])
+retried_lines : transcript (setup 1) false counted (counted_again (int 1)) 4 ≡ Some (Out 1 (int 0) ∷ Out 3 (int 7) ∷ Out 4 (int 2) ∷ [])
 unfolding counted counted_again row worked
 retried_lines = refl
 
 -- another reply of the second access
-another_reply : legal (setup 1 ((1, 3) ∷ [])) counted (counted_again (int 0)) ≡ false
+another_reply : legal (setup 1) ((1, 3) ∷ []) counted (counted_again (int 0)) ≡ false
 unfolding counted counted_again row worked
 another_reply = refl
 
 -- the same journal where the plan names no loss
-unplanned_loss : legal (setup 1 []) counted (counted_again (int 1)) ≡ false
+unplanned_loss : legal (setup 1) [] counted (counted_again (int 1)) ≡ false
 unfolding counted counted_again row worked
 unplanned_loss = refl
 
@@ -56,11 +57,11 @@ quitting_journal =
     ∷ by 0 (Event.Take 1) ∷ by 0 (Event.Deliver 1 aborted')
     ∷ by 0 Event.Resume ∷ by 0 (Event.Ask 0) ∷ by 0 Event.Close ∷ []
 
-quitting_legal : legal (setup 2 []) quitting quitting_journal ≡ true
+quitting_legal : legal (setup 2) [] quitting quitting_journal ≡ true
 unfolding quitting quitting_journal row worked
 quitting_legal = refl
 
-quitting_lines : transcript (setup 2 []) false quitting quitting_journal 2 ≡ Some (Out 1 aborted' ∷ Out 2 (int 0) ∷ [])
+quitting_lines : transcript (setup 2) false quitting quitting_journal 2 ≡ Some (Out 1 aborted' ∷ Out 2 (int 0) ∷ [])
 unfolding quitting quitting_journal row worked
 quitting_lines = refl
 
@@ -74,11 +75,11 @@ everywhere_journal =
     ∷ by 2 (Event.Lose Loss.Plan) ∷ by 3 (Event.Take 3) ∷ by 1 (Event.Take 1) ∷ by 1 (Event.Deliver 1 (int 1)) ∷ by 3 (Event.Deliver 3 (int 3))
     ∷ by 0 Event.Resume ∷ by 0 Event.Close ∷ []
 
-everywhere_legal : legal (setup 3 ((2, 1) ∷ [])) everywhere everywhere_journal ≡ true
+everywhere_legal : legal (setup 3) ((2, 1) ∷ []) everywhere everywhere_journal ≡ true
 unfolding everywhere everywhere_journal row worked
 everywhere_legal = refl
 
-everywhere_lines : transcript (setup 3 ((2, 1) ∷ [])) false everywhere everywhere_journal 1 ≡ Some (Out 1 (list (int 1 ∷ failed' ∷ int 3 ∷ [])) ∷ [])
+everywhere_lines : transcript (setup 3) false everywhere everywhere_journal 1 ≡ Some (Out 1 (list (int 1 ∷ failed' ∷ int 3 ∷ [])) ∷ [])
 unfolding everywhere everywhere_journal row worked
 everywhere_lines = refl
 
@@ -94,12 +95,12 @@ not_started =
     by 1 (Event.Lose Loss.NotStarted) ∷ by 0 (Event.Submit 1) ∷ by 0 (Event.Yield (Wait.All (1 ∷ []))) ∷ by 2 (Event.Take 1)
     ∷ by 2 (Event.Deliver 1 (list (call f' (int 1 ∷ []) ∷ call f' (int 2 ∷ []) ∷ []))) ∷ by 0 Event.Resume ∷ by 0 Event.Close ∷ []
 
-not_started_legal : legal (setup 2 []) mapped not_started ≡ true
+not_started_legal : legal (setup 2) [] mapped not_started ≡ true
 unfolding mapped not_started row worked
 not_started_legal = refl
 
 -- a kernel that takes an item although the plan names its first entry
-plan_ignored : legal (setup 2 ((2, 1) ∷ [])) mapped not_started ≡ false
+plan_ignored : legal (setup 2) ((2, 1) ∷ []) mapped not_started ≡ false
 unfolding mapped not_started row worked
 plan_ignored = refl
 
@@ -108,19 +109,19 @@ lost_journal =
     by 0 (Event.Submit 1) ∷ by 0 (Event.Yield (Wait.All (1 ∷ []))) ∷ by 1 (Event.Take 1) ∷ by 1 (Event.Access (increment n') (int 0)) ∷ by 1 (Event.Lose Loss.Plan)
     ∷ by 0 Event.Resume ∷ by 0 Event.Close ∷ []
 
-abandoned : transcript (abandoning 1 ((1, 3) ∷ [])) false counted lost_journal 4 ≡ Some (Out 1 (int 0) ∷ Out 3 failed' ∷ Out 4 (int 1) ∷ [])
+abandoned : transcript (abandoning 1) false counted lost_journal 4 ≡ Some (Out 1 (int 0) ∷ Out 3 failed' ∷ Out 4 (int 1) ∷ [])
 unfolding counted lost_journal row worked
 abandoned = refl
 
-abandoned_legal : legal (abandoning 1 ((1, 3) ∷ [])) counted lost_journal ≡ true
+abandoned_legal : legal (abandoning 1) ((1, 3) ∷ []) counted lost_journal ≡ true
 unfolding counted lost_journal row worked
 abandoned_legal = refl
 
 -- the same journal is not legal where a lost item waits again
-abandoned_unasked : legal (setup 1 ((1, 3) ∷ [])) counted lost_journal ≡ false
+abandoned_unasked : legal (setup 1) ((1, 3) ∷ []) counted lost_journal ≡ false
 unfolding counted lost_journal row worked
 abandoned_unasked = refl
 
-batch_abandoned : transcript (abandoning 1 ((1, 2) ∷ [])) false mapped mapped_journal 1 ≡ Some (Out 1 (list (failed' ∷ failed' ∷ [])) ∷ [])
+batch_abandoned : transcript (abandoning 1) false mapped mapped_journal 1 ≡ Some (Out 1 (list (failed' ∷ failed' ∷ [])) ∷ [])
 unfolding mapped mapped_journal row worked
 batch_abandoned = refl

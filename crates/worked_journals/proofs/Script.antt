@@ -8,7 +8,8 @@ use Rattle.semantics.specs.Builtin.{row_number, rows}
 use Rattle.semantics.specs.Names.{Names, make, name}
 use Rattle.expr_tree.specs.declared.limits.Limits.{Limits}
 use Rattle.journal.specs.Entry.{Entry, Event, Wait}
-use Rattle.journal.specs.Core.{Setup, Retry, Abandon}
+use Rattle.journal.specs.declared.recover.Recover.{Recover}
+use Rattle.journal.specs.Core.{Setup}
 use Rattle.journal.specs.Run.{Reading, Reads}
 
 abbrev pub row_at : List Builtin → ℕ → Option Builtin
@@ -39,9 +40,9 @@ list es = of Builtin.List es
 abbrev pub equals : Tree → Tree → Tree
 equals s t = of Builtin.Set (s ∷ t ∷ [])
 
--- with so many kernels and a plan of losses
-abbrev pub setup : ℕ → List (ℕ × ℕ) → Setup
-setup kernels plan = record { names = names; shown = λ e. []; kernels = kernels; limits = product_limits; recovery = Retry; plan = plan }
+-- with so many kernels
+abbrev pub setup : ℕ → Setup
+setup kernels = record { names = names; shown = λ e. []; kernels = kernels; limits = product_limits; recovery = Recover.Retry }
 
 abbrev pub by : ℕ → Event → Entry
 by k event = record { kernel = k; event = event }
@@ -72,8 +73,8 @@ abbrev pub then : Tree → Tree → Tree
 then e f = of Builtin.CompoundExpression (e ∷ f ∷ [])
 
 -- a lost item is given up
-abbrev pub abandoning : ℕ → List (ℕ × ℕ) → Setup
-abandoning kernels plan = record (setup kernels plan) { recovery = Abandon }
+abbrev pub abandoning : ℕ → Setup
+abandoning kernels = record (setup kernels) { recovery = Recover.Abandon }
 
 abbrev pub f' : Tree
 f' = sym 3

@@ -40,16 +40,16 @@ guarded_overlapping =
     enters 1 ∷ read 1 0 ∷ enters 2 ∷ write 1 1 ∷ by 1 Event.Leave ∷ by 1 (Event.Deliver 1 (list (int 1 ∷ [])))
     ∷ read 2 1 ∷ write 2 2 ∷ by 2 Event.Leave ∷ by 2 (Event.Deliver 2 (list (int 2 ∷ []))) ∷ [])
 
-guarded_legal : legal (setup 2 []) guarded guarded_apart ≡ true
+guarded_legal : legal (setup 2) [] guarded guarded_apart ≡ true
 unfolding guarded guarded_with guarded_apart row worked
 guarded_legal = refl
 
-guarded_lines : transcript (setup 2 []) false guarded guarded_apart 4 ≡ Some (Out 1 (int 0) ∷ Out 4 (int 2) ∷ [])
+guarded_lines : transcript (setup 2) false guarded guarded_apart 4 ≡ Some (Out 1 (int 0) ∷ Out 4 (int 2) ∷ [])
 unfolding guarded guarded_with guarded_apart row
 guarded_lines = refl
 
 -- the second Enter comes too early
-guarded_refused : legal (setup 2 []) guarded guarded_overlapping ≡ false
+guarded_refused : legal (setup 2) [] guarded guarded_overlapping ≡ false
 unfolding guarded guarded_with guarded_overlapping row
 guarded_refused = refl
 
@@ -68,11 +68,11 @@ inner_journal =
     ∷ by 0 (Event.Take 2) ∷ by 0 (Event.Enter (record { base = 1000; number = 0 } ∷ [])) ∷ by 0 Event.Leave ∷ by 0 (Event.Deliver 2 (int 1)) ∷ by 0 Event.Resume
     ∷ by 0 Event.Close ∷ []
 
-inner_lines : transcript (setup 0 []) false inner inner_journal 2 ≡ Some (Out 1 failed' ∷ Out 2 (int 1) ∷ [])
+inner_lines : transcript (setup 0) false inner inner_journal 2 ≡ Some (Out 1 failed' ∷ Out 2 (int 1) ∷ [])
 unfolding inner inner_journal row worked
 inner_lines = refl
 
-inner_legal : legal (setup 0 []) inner inner_journal ≡ true
+inner_legal : legal (setup 0) [] inner inner_journal ≡ true
 unfolding inner inner_journal row worked
 inner_legal = refl
 
@@ -96,7 +96,7 @@ lock_awaited_journal =
     ∷ by 0 (Event.Yield (Wait.Locks (lock' ∷ []))) ∷ by 2 Event.Leave ∷ by 0 Event.Resume ∷ by 0 (Event.Enter (lock' ∷ [])) ∷ by 0 Event.Leave
     ∷ by 0 (Event.Yield (Wait.All (1 ∷ 2 ∷ []))) ∷ by 2 (Event.Deliver 2 (int 2)) ∷ by 0 Event.Resume ∷ by 0 Event.Close ∷ []
 
-lock_awaited_legal : legal (setup 2 []) lock_awaited lock_awaited_journal ≡ true
+lock_awaited_legal : legal (setup 2) [] lock_awaited lock_awaited_journal ≡ true
 unfolding lock_awaited lock_awaited_journal row worked
 lock_awaited_legal = refl
 
@@ -110,6 +110,6 @@ quitting_inside_journal =
     ++ by 0 (Event.Submit 2) ∷ by 0 (Event.Yield (Wait.All (2 ∷ []))) ∷ by 0 (Event.Take 2) ∷ by 0 (Event.Enter (lock' ∷ [])) ∷ by 0 Event.Leave
     ∷ by 0 (Event.Deliver 2 (name names Builtin.Aborted)) ∷ by 0 Event.Resume ∷ by 0 Event.Close ∷ []
 
-quitting_inside_legal : legal (setup 0 []) quitting_inside quitting_inside_journal ≡ true
+quitting_inside_legal : legal (setup 0) [] quitting_inside quitting_inside_journal ≡ true
 unfolding quitting_inside quitting_inside_journal row worked
 quitting_inside_legal = refl

@@ -7,12 +7,13 @@ use Rattle.semantics.specs.Program.{Mode}
 use Rattle.semantics.specs.Eval.{eval}
 use Rattle.semantics.specs.Table.{row, worked}
 use Rattle.semantics.specs.Match.{matches}
-use Rattle.journal.specs.Core.{Setup, Retry, in_mode}
+use Rattle.journal.specs.declared.recover.Recover.{Recover}
+use Rattle.journal.specs.Core.{Setup, in_mode}
 use Rattle.journal.specs.Quiet.{by_itself}
 use Rattle.worked_rows.specs.Sample.{names, in_cell, usual, apply, equals, f', t', x', int, list, made, of, plus, times, value}
 
 abbrev setup : Setup
-setup = record { names = names; shown = λ e. 63 ∷ []; kernels = 3; limits = usual; recovery = Retry; plan = [] }
+setup = record { names = names; shown = λ e. 63 ∷ []; kernels = 3; limits = usual; recovery = Recover.Retry }
 
 abbrev known_after : Definitions → Tree → Definitions
 known_after d e = (eval (in_cell usual) d e []).definitions

@@ -1,0 +1,68 @@
+-- What a journal shows of one kernel, and of the core beside it.
+--     needed                        an entry without what is handed in beside it to no effect
+--     HandedNeeded                  that changes neither the core nor a kernel's view
+--     ItemsAgree                    the items of the core are those that each kernel has seen
+--     own_entries, none_by          the entries of one kernel; whether there is none
+--     OthersPass                    entries of others change nothing of a kernel but the items that it has seen
+--     OwnCounted, LivesUnlessLost   a kernel's count is that of its entries; it lives unless its view is lost
+use Rattle.std.specs.Prelude.{◌≡◌, ℕ, suc, ◌≤◌, List, [], ◌∷◌, ◌++◌, map, length, Bool, true, false, ◌&&◌, not, ◌==◌, Some}
+use Rattle.journal.specs.Closure.{Bundle}
+use Rattle.journal.specs.Entry.{Event, Item, Handed, Posted}
+use Rattle.journal.specs.Core.{Setup, Core, Queued, lives, allowed, effect, replay}
+use Rattle.journal.specs.Follow.{Plan, View, is_lost, with_handed, watch, kernel_run}
+
+-- at Submit an item, at Yield definitions
+abbrev pub handed_for : Event → Handed → Handed
+handed_for (Event.Submit id) (Handed.Given item b) = Handed.Given item b
+handed_for (Event.Yield w) (Handed.Lent d) = Handed.Lent d
+handed_for _ _ = Handed.Nothing
+
+abbrev pub needed : Posted → Posted
+needed p = record p { handed = handed_for p.entry.event p.handed }
+
+-- the versions that a kernel holds, and whatever else is handed in, change nothing
+abbrev pub HandedNeeded : Type 0
+HandedNeeded =
+    ((set : Setup) (c : Core) (p : Posted) → (allowed set c (needed p) ≡ allowed set c p) × (effect set c (needed p) ≡ effect set c p))
+    × ((set : Setup) (plan : Plan) (k : ℕ) (v : View) (p : Posted) → watch set plan k v (needed p) ≡ watch set plan k v p)
+    × ((set : Setup) (ps : List Posted) → replay set (map needed ps) ≡ replay set ps)
+    × ((set : Setup) (plan : Plan) (k : ℕ) (ps : List Posted) → kernel_run set plan k (map needed ps) ≡ kernel_run set plan k ps)
+
+abbrev pub pair_of : Queued → Item × Bundle
+pair_of q = (q.item, q.bundle)
+
+abbrev pub ItemsAgree : Type 0
+ItemsAgree =
+    (set : Setup) (plan : Plan) (k : ℕ) (ps : List Posted) (c : Core) (v : View) → replay set ps ≡ Some c → kernel_run set plan k ps ≡ Some v → map pair_of c.items ≡ v.items
+
+-- ---- entries of one kernel
+
+abbrev pub own_entries : ℕ → List Posted → List Posted
+own_entries k [] = []
+own_entries k (p ∷ ps) = elim (p.entry.kernel == k) [ true ↦ p ∷ own_entries k ps | false ↦ own_entries k ps ]
+
+abbrev pub none_by : ℕ → List Posted → Bool
+none_by k [] = true
+none_by k (p ∷ ps) = not (p.entry.kernel == k) && none_by k ps
+
+-- the items seen after these entries
+abbrev pub items_seen : List Posted → List (Item × Bundle) → List (Item × Bundle)
+items_seen [] items = items
+items_seen (p ∷ ps) items = items_seen ps (with_handed p.entry.event p.handed items)
+
+abbrev pub OthersPass : Type 0
+OthersPass =
+    (set : Setup) (plan : Plan) (k : ℕ) (ps others : List Posted) (v : View) → kernel_run set plan k ps ≡ Some v → none_by k others ≡ true
+    → kernel_run set plan k (ps ++ others) ≡ Some (record v { items = items_seen others v.items })
+
+-- what a kernel saw of items stands in front of what it sees later
+abbrev pub ItemsStay : Type 0
+ItemsStay = (ps : List Posted) (items : List (Item × Bundle)) → (more : List (Item × Bundle)) × (items_seen ps items ≡ items ++ more)
+
+abbrev pub OwnCounted : Type 0
+OwnCounted = (set : Setup) (plan : Plan) (k : ℕ) (ps : List Posted) (v : View) → kernel_run set plan k ps ≡ Some v → v.own ≡ length (own_entries k ps)
+
+abbrev pub LivesUnlessLost : Type 0
+LivesUnlessLost =
+    (set : Setup) (plan : Plan) (k : ℕ) (ps : List Posted) (c : Core) (v : View) → suc k ≤ set.kernels → replay set ps ≡ Some c → kernel_run set plan (suc k) ps ≡ Some v
+    → lives c (suc k) ≡ not (is_lost v.phase)
