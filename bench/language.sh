@@ -36,7 +36,7 @@ beside() {
   awk -v a="$own" -v b="$least" -v m="$mark" 'BEGIN { if (b == "-") printf "%18s", "-"; else if (a + 0 > 0) printf "%18s", sprintf("%.2f (%.1f)%s", b, b / a, m); else printf "%18s", sprintf("%.2f%s", b, m) }'
 }
 
-"$top/wolfpar" --kernels 0 </dev/null || exit 1  # builds it
+"$top/prove" || exit 1
 ulimit -t 120
 printf '%-14s%10s%18s%18s\n' case wolfpar yacas maxima
 for script in "$cases"/*.wl; do

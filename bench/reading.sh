@@ -12,7 +12,7 @@ integers() {
   awk -v n="$1" -v sep="$2" 'BEGIN { for (i = 1; i <= n; i++) printf "%s%d", (i > 1 ? sep : ""), 10000000 + (i * 7919) % 90000000 }'
 }
 
-"$top/wolfpar" --kernels 0 </dev/null  # builds it
+"$top/prove" || exit 1
 TIMEFORMAT='%U user, %S system'
 for n in 25000 50000 100000; do
   { printf 'HoldComplete[{'; integers "$n" ', '; printf '}]\n'; } >"$cell"
