@@ -14,7 +14,8 @@ use Rattle.expr_tree.specs.Substitution.{among}
 use Rattle.semantics.specs.Definitions.{Definitions, empty, is_empty}
 use Rattle.semantics.specs.Program.{Mode, Request, Call}
 use Rattle.expr_tree.specs.declared.limits.Limits.{Limits}
-use Rattle.semantics.specs.Play.{Setting, End, Reply, Play, Over, Calls, whole}
+use Rattle.semantics.specs.Play.{Setting, Reply, Play, Over, Calls, whole}
+use Rattle.semantics.specs.Ends.{shown_end}
 use Rattle.journal.specs.declared.recover.Recover.{Recover}
 use Rattle.journal.specs.Places.{nth, change_at, each_from, member, is_some}
 use Rattle.journal.specs.Closure.{Bundle}
@@ -192,9 +193,6 @@ may_take set c k = lives c k
 abbrev pub failed : Names → Tree
 failed names = name names Builtin.Failed
 
-abbrev pub aborted : Names → Tree
-aborted names = name names Builtin.Aborted
-
 abbrev pub null : Names → Tree
 null names = name names Builtin.Null
 
@@ -206,20 +204,15 @@ pub record Served : Type 0 where
   pub definitions : Definitions
   pub lines : List Text
 
--- what is shown and sent for an end: its value, and else $Aborted
-abbrev pub value_for : Names → End → Tree
-value_for names (End.Value v) = v
-value_for names _ = aborted names
-
 -- an evaluation in mode Service: each count is answered, and each print adds a line
-abbrev pub served : Names → ℕ → Play → List Text → Served
-served names live (Over end s) lines = record { reply = value_for names end; definitions = s.definitions; lines = lines }
-served names live (Calls (Call.Sends Request.Count) s k) lines = served names live (k (Reply.Replied (integer (pos live))) s.definitions) lines
-served names live (Calls (Call.Sends (Request.Print t)) s k) lines = served names live (k (Reply.Replied (null names)) s.definitions) (lines ++ t ∷ [])
-served names live (Calls c s k) lines = served names live (k Reply.Shut s.definitions) lines
+abbrev pub served : Setup → ℕ → Play → List Text → Served
+served set live (Over end s) lines = record { reply = shown_end set.names set.limits end; definitions = s.definitions; lines = lines }
+served set live (Calls (Call.Sends Request.Count) s k) lines = served set live (k (Reply.Replied (integer (pos live))) s.definitions) lines
+served set live (Calls (Call.Sends (Request.Print t)) s k) lines = served set live (k (Reply.Replied (null set.names)) s.definitions) (lines ++ t ∷ [])
+served set live (Calls c s k) lines = served set live (k Reply.Shut s.definitions) lines
 
 abbrev pub service : Setup → Core → Tree → Served
-service set c e = served set.names (count c) (whole (in_mode set Mode.Service 0) c.definitions e) c.lines
+service set c e = served set (count c) (whole (in_mode set Mode.Service 0) c.definitions e) c.lines
 
 -- ---- what becomes of one item
 

@@ -13,12 +13,13 @@ use Rattle.semantics.specs.Names.{Names, make}
 use Rattle.semantics.specs.Definitions.{Definitions, empty}
 use Rattle.semantics.specs.Program.{Mode, Request, Call}
 use Rattle.semantics.specs.Play.{State, End, Reply, Play, Over, Calls, whole, too_large}
+use Rattle.semantics.specs.Ends.{aborted, shown_end}
 use Rattle.semantics.specs.Eval.{same_symbols}
 use Rattle.journal.specs.Places.{nth, given, when, is_some}
 use Rattle.journal.specs.Closure.{Bundle, install}
 use Rattle.journal.specs.declared.loss.Loss.{Loss}
 use Rattle.journal.specs.Entry.{Event, Item, Handed, Posted}
-use Rattle.journal.specs.Core.{Setup, in_mode, aborted, null}
+use Rattle.journal.specs.Core.{Setup, in_mode, null}
 
 pub data Attempt : Type 0 where
   Wants : Call → (Reply → Attempt) → Attempt
@@ -40,16 +41,22 @@ after_quit zero None go = go
 after_quit zero (Some locks) go = Wants Call.Leave (λ reply. go)
 after_quit (suc k) section go = Quits
 
--- the value of one evaluation, and the definitions after it
-abbrev pub valued : Names → ℕ → (Tree → Definitions → Attempt) → End → State → Attempt
-valued names k go (End.Value v) s = go v s.definitions
-valued names k go (End.Stopped cause) s = go (aborted names) s.definitions
-valued names k go End.Quit s = after_quit k s.open_section (go (aborted names) s.definitions)
-valued names k go _ s = Stuck
+-- what the end of one evaluation shows, and the definitions after it
+abbrev pub showing : Setup → (Tree → Definitions → Attempt) → End → State → Attempt
+showing set go end s = go (shown_end set.names set.limits end) s.definitions
+
+abbrev pub valued : Setup → ℕ → (Tree → Definitions → Attempt) → End → State → Attempt
+valued set k go (End.Value v) s = showing set go (End.Value v) s
+valued set k go (End.Stopped cause) s = showing set go (End.Stopped cause) s
+valued set k go (End.Throwing v) s = showing set go (End.Throwing v) s
+valued set k go (End.Thrown v) s = showing set go (End.Thrown v) s
+valued set k go End.Quit s = after_quit k s.open_section (showing set go End.Quit s)
+valued set k go End.Closed s = Stuck
+valued set k go End.Starved s = Stuck
 
 -- kernel k evaluates e
 abbrev pub evaluated : Setup → ℕ → Definitions → Tree → (Tree → Definitions → Attempt) → Attempt
-evaluated set k d e go = attempt_of (whole (in_mode set Mode.Item k) d e) (valued set.names k go)
+evaluated set k d e go = attempt_of (whole (in_mode set Mode.Item k) d e) (valued set k go)
 
 -- the List of a batch, within the limits of an expression
 abbrev pub batch_value : Setup → List Tree → Tree

@@ -15,11 +15,12 @@ use Rattle.semantics.specs.Rule.{Rule}
 use Rattle.semantics.specs.Definitions.{Definition, Definitions, Shared, empty, has, same_attributes}
 use Rattle.semantics.specs.Program.{Mode}
 use Rattle.semantics.specs.Play.{End}
+use Rattle.semantics.specs.Ends.{aborted}
 use Rattle.semantics.specs.Eval.{Outcome, Evaluation, eval, same_symbols}
 use Rattle.semantics.specs.Sections.{same_share}
 use Rattle.journal.specs.Places.{when}
 use Rattle.journal.specs.Closure.{bundle, install, closure, members, symbols_of, symbols_of_definition}
-use Rattle.journal.specs.Core.{Setup, in_mode, aborted}
+use Rattle.journal.specs.Core.{Setup, in_mode}
 
 -- the definitions of a kernel that knows the bundle alone
 abbrev pub bare : Setup → Definitions → Tree → Definitions
@@ -44,6 +45,8 @@ Quiet set d (a ∷ as') = IsQuiet set d a × Quiet set d as'
 abbrev pub value_of : End → Option Tree
 value_of (End.Value v) = Some v
 value_of (End.Stopped cause) = None
+value_of (End.Throwing v) = None
+value_of (End.Thrown v) = None
 value_of End.Quit = None
 value_of End.Closed = None
 value_of End.Starved = None

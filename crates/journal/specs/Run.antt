@@ -16,11 +16,12 @@ use Rattle.semantics.specs.Names.{Names, is_name}
 use Rattle.semantics.specs.Definitions.{Definitions, empty}
 use Rattle.semantics.specs.Program.{Mode, Request, Call}
 use Rattle.semantics.specs.Play.{State, End, Reply, Play, Over, Calls, whole}
+use Rattle.semantics.specs.Ends.{aborted, shown_end}
 use Rattle.semantics.specs.Eval.{same_symbols}
 use Rattle.journal.specs.Places.{given}
 use Rattle.journal.specs.Closure.{bundle, symbols_of, symbols_of_all}
 use Rattle.journal.specs.Entry.{Text, Wait, Event, Entry, Item, Handed, Posted}
-use Rattle.journal.specs.Core.{Setup, Core, start, step, all_free, wait_reply, in_mode, count, value_for, aborted, null}
+use Rattle.journal.specs.Core.{Setup, Core, start, step, all_free, wait_reply, in_mode, count, null}
 use Rattle.journal.specs.Follow.{Plan, all_run}
 use Rattle.journal.specs.Forms.{Next, Replies, Awaits, Form, Answers, Submits, form}
 
@@ -195,7 +196,7 @@ cell_lines set n before w v = map Printed (drop (length before.core.lines) w.cor
 
 abbrev pub after_cell : Setup → ℕ → Ran → Finish × Walk → Ran
 after_cell set n ran r =
-    record { walk = r.1; definitions = (r.0).state.definitions; lines = ran.lines ++ cell_lines set n ran.walk r.1 (value_for set.names (r.0).end) }
+    record { walk = r.1; definitions = (r.0).state.definitions; lines = ran.lines ++ cell_lines set n ran.walk r.1 (shown_end set.names set.limits (r.0).end) }
 
 abbrev pub with_lines : List Line → Ran → Ran
 with_lines ls ran = record ran { lines = ran.lines ++ ls }

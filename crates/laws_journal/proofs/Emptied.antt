@@ -8,7 +8,8 @@ use Rattle.semantics.specs.Program.{Request, Call, Mode}
 use Rattle.semantics.specs.Play.{Reply, Play, Over, Calls, whole}
 use Rattle.journal.specs.Closure.{bundle}
 use Rattle.journal.specs.Entry.{Event, Item, Handed, Wait}
-use Rattle.journal.specs.Core.{Setup, null, aborted, all_free, count, in_mode}
+use Rattle.semantics.specs.Ends.{aborted}
+use Rattle.journal.specs.Core.{Setup, null, all_free, count, in_mode}
 use Rattle.journal.specs.Forms.{Next, Replies, Awaits, Form, Answers, Submits, form}
 use Rattle.journal.specs.Run.{Walk, Course, Goes, UsedUp, Differs, going, no_entry, post_next, master_posts, until_resume, wait_for, seeds_of, submit_all, Answered, replied, by_next, by_form, enter, answer, play_along, Reading, Reads, Unread, Ran, run_cell, run_cells, after_cell, with_lines, out_line}
 use Rattle.laws_journal.specs.Runs.{AtEnd, UsedUpStays}

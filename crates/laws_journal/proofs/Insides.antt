@@ -5,14 +5,15 @@ use Rattle.expr_tree.specs.declared.sym.Sym.{Sym}
 use Rattle.expr_tree.specs.Tree.{Tree}
 use Rattle.semantics.specs.Definitions.{Definitions, is_empty}
 use Rattle.semantics.specs.Program.{Mode, Request, Call}
-use Rattle.semantics.specs.Play.{End, Reply, Play, Over, Calls, whole}
+use Rattle.semantics.specs.Play.{State, End, Reply, Play, Over, Calls, whole}
+use Rattle.semantics.specs.Ends.{shown_end}
 use Rattle.semantics.specs.Opened.{opens}
 use Rattle.journal.specs.Places.{nth, change_at, given}
 use Rattle.journal.specs.Closure.{Bundle, install}
 use Rattle.journal.specs.declared.loss.Loss.{Loss}
 use Rattle.journal.specs.Entry.{Event, Item, Posted}
-use Rattle.journal.specs.Core.{Setup, Core, in_mode, aborted, null, Kernel, new_kernel, start, locks_of, permitted, allowed, kernel_after, effect, replay_from}
-use Rattle.journal.specs.Follow.{Plan, Attempt, Wants, Delivers, Quits, attempt_of, after_quit, valued, evaluated, applications, attempt, Phase, Free, At, Lost, View, heard, item_of, moved, is_lost, is_planned, or_planned, own_entry, with_handed, watch, watch_from, first_view, kernel_run}
+use Rattle.journal.specs.Core.{Setup, Core, in_mode, null, Kernel, new_kernel, start, locks_of, permitted, allowed, kernel_after, effect, replay_from}
+use Rattle.journal.specs.Follow.{Plan, Attempt, Wants, Delivers, Quits, attempt_of, after_quit, showing, valued, evaluated, applications, attempt, Phase, Free, At, Lost, View, heard, item_of, moved, is_lost, is_planned, or_planned, own_entry, with_handed, watch, watch_from, first_view, kernel_run}
 use Rattle.laws_journal.specs.Laws.{Ordered, wants, delivers, quits, stuck, StandsIn}
 use Rattle.laws_journal.proofs.Tables.{both, none≢some, some_is, split, apart, is_not, change_other, change_same, opened, when_some}
 use Rattle.laws_journal.proofs.Tidy.{Tidy, ended, called, whole-tidy}
@@ -28,10 +29,16 @@ after_quit-ordered zero None go now e h = subst (λ b. Ordered b go) e h
 after_quit-ordered zero (Some ls) go now e h = wants (subst T e tt) (λ v. h)
 after_quit-ordered (suc k) section go now e h = quits
 
-attempt_of-ordered : (set : Setup) (k : ℕ) (go : Tree → Definitions → Attempt) → GoesOn go → (now : Bool) (p : Play) → Tidy false now p → Ordered now (attempt_of p (valued set.names k go))
-attempt_of-ordered set k go next now (Over (End.Value v) s) (ended e h) = subst (λ b. Ordered b (go v s.definitions)) (sym h) (next v s.definitions)
-attempt_of-ordered set k go next now (Over (End.Stopped c) s) (ended e h) = subst (λ b. Ordered b (go (aborted set.names) s.definitions)) (sym h) (next (aborted set.names) s.definitions)
-attempt_of-ordered set k go next now (Over End.Quit s) (ended e h) = after_quit-ordered k s.open_section (go (aborted set.names) s.definitions) now (quit_open s.open_section ∙ e) (next (aborted set.names) s.definitions)
+-- what is shown is delivered outside
+shown-ordered : (set : Setup) (go : Tree → Definitions → Attempt) → GoesOn go → (now : Bool) (o : End) (s : State) → now ≡ false → Ordered now (showing set go o s)
+shown-ordered set go next now o s h = subst (λ b. Ordered b (showing set go o s)) (sym h) (next (shown_end set.names set.limits o) s.definitions)
+
+attempt_of-ordered : (set : Setup) (k : ℕ) (go : Tree → Definitions → Attempt) → GoesOn go → (now : Bool) (p : Play) → Tidy false false now p → Ordered now (attempt_of p (valued set k go))
+attempt_of-ordered set k go next now (Over (End.Value v) s) (ended e h) = shown-ordered set go next now (End.Value v) s h
+attempt_of-ordered set k go next now (Over (End.Stopped c) s) (ended e h) = shown-ordered set go next now (End.Stopped c) s h
+attempt_of-ordered set k go next now (Over (End.Throwing v) s) (ended e h) = absurd h.0
+attempt_of-ordered set k go next now (Over (End.Thrown v) s) (ended e h) = shown-ordered set go next now (End.Thrown v) s h
+attempt_of-ordered set k go next now (Over End.Quit s) (ended e h) = after_quit-ordered k s.open_section (showing set go End.Quit s) now (quit_open s.open_section ∙ e) (shown-ordered set go next false End.Quit s refl)
   where
     quit_open : (o : Option (List Sym)) → elim o [ None ↦ false | Some ls ↦ true ] ≡ is_some o
     quit_open None = refl

@@ -8,7 +8,8 @@ use Rattle.semantics.specs.Program.{Request, Call, Mode}
 use Rattle.semantics.specs.Play.{Reply, Play, Over, Calls, whole}
 use Rattle.journal.specs.Closure.{bundle}
 use Rattle.journal.specs.Entry.{Event, Entry, Item, Posted, Handed, Wait}
-use Rattle.journal.specs.Core.{null, aborted, Setup, Core, step, all_free, wait_reply, count, in_mode}
+use Rattle.semantics.specs.Ends.{aborted}
+use Rattle.journal.specs.Core.{null, Setup, Core, step, all_free, wait_reply, count, in_mode}
 use Rattle.journal.specs.Forms.{Next, Replies, Awaits, Form, Answers, Submits, form}
 use Rattle.journal.specs.Run.{Walk, Course, Goes, UsedUp, Differs, going, or_differs, no_entry, post, post_next, master_posts, is_event, is_resume, until_resume, wait_for, seeds_of, submit_all, Answered, replied, by_next, by_form, enter, answer, Finish, play_along, Reading, Reads, Unread, Ran, run_cell, run_cells, first_losses, first_walk, is_loss, run_along, closes, is_over, whole_run, after_cell, with_lines, out_line}
 use Rattle.laws_journal.proofs.Courses.{used≢goes, differs≢goes, goes_is, on_step, one_step}

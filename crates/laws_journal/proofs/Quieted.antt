@@ -165,6 +165,8 @@ same_definitions-true c d e = ap (same_definitions c) (sym e) ∙ same_definitio
 ended_with : (o : Outcome) (v : Tree) → outcome_value o ≡ Some v → o ≡ Outcome.Ended (End.Value v)
 ended_with (Outcome.Ended (End.Value w)) v e = ap (λ x. Outcome.Ended (End.Value x)) (some_is e)
 ended_with (Outcome.Ended (End.Stopped cause)) v e = absurd (none≢some e)
+ended_with (Outcome.Ended (End.Throwing w)) v e = absurd (none≢some e)
+ended_with (Outcome.Ended (End.Thrown w)) v e = absurd (none≢some e)
 ended_with (Outcome.Ended End.Quit) v e = absurd (none≢some e)
 ended_with (Outcome.Ended End.Closed) v e = absurd (none≢some e)
 ended_with (Outcome.Ended End.Starved) v e = absurd (none≢some e)

@@ -10,7 +10,8 @@ use Rattle.journal.specs.Places.{nth, change_at, given, is_some}
 use Rattle.journal.specs.Closure.{bundle}
 use Rattle.journal.specs.declared.loss.Loss.{Loss}
 use Rattle.journal.specs.Entry.{Event, Entry, Item, Posted, Handed, Wait}
-use Rattle.journal.specs.Core.{null, aborted, Setup, Core, Kernel, new_kernel, start, step, attempt_of, allowed, effect, permitted, kernel_after, wait_after, all_free, wait_reply, count, in_mode}
+use Rattle.semantics.specs.Ends.{aborted}
+use Rattle.journal.specs.Core.{null, Setup, Core, Kernel, new_kernel, start, step, attempt_of, allowed, effect, permitted, kernel_after, wait_after, all_free, wait_reply, count, in_mode}
 use Rattle.journal.specs.Follow.{Plan, Wants, Delivers, Quits, Phase, Free, At, Lost, View, heard, stand_in_entry, entry_of, watch, watch_from, first_view, kernel_run, all_run, item_of, with_handed}
 use Rattle.journal.specs.Forms.{Next, Replies, Awaits, Form, Answers, Submits, form}
 use Rattle.journal.specs.Run.{Walk, Course, Goes, going, or_differs, arrived, post, post_next, master_posts, is_event, is_resume, until_resume, wait_for, seeds_of, submit_all, Answered, replied, by_next, by_form, answer, Finish, play_along, Reading, Reads, Unread, Ran, run_cell, run_cells, first_losses, first_walk, is_loss, run_along, closes, whole_run, posted_by, is_over, kernels_run, legal, after_cell, out_line}

@@ -35,21 +35,21 @@ value_is {u} {v} e = ap from e
     from Outcome.Wrong = u
 
 -- an evaluation that ended with a value without a list made no call
-goes_on : (p : Play) (names : Names) (k : ℕ) (go : Tree → Definitions → Attempt) (v : Tree) → (over p []).outcome ≡ Ended (End.Value v)
-    → attempt_of p (valued names k go) ≡ go v (over p []).definitions
-goes_on (Over (End.Value u) s) names k go v e = ap (λ x. go x s.definitions) (value_is e)
-goes_on (Over (End.Stopped c) s) names k go v e = absurd (Prim.cc e)
-goes_on (Over (End.Throwing x) s) names k go v e = absurd (Prim.cc e)
-goes_on (Over (End.Thrown x) s) names k go v e = absurd (Prim.cc e)
-goes_on (Over End.Quit s) names k go v e = absurd (Prim.cc e)
-goes_on (Over End.Closed s) names k go v e = absurd (Prim.cc e)
-goes_on (Over End.Starved s) names k go v e = absurd (Prim.cc e)
-goes_on (Calls c s f) names k go v e = absurd (ended_needs e)
+goes_on : (p : Play) (set : Setup) (k : ℕ) (go : Tree → Definitions → Attempt) (v : Tree) → (over p []).outcome ≡ Ended (End.Value v)
+    → attempt_of p (valued set k go) ≡ go v (over p []).definitions
+goes_on (Over (End.Value u) s) set k go v e = ap (λ x. go x s.definitions) (value_is e)
+goes_on (Over (End.Stopped c) s) set k go v e = absurd (Prim.cc e)
+goes_on (Over (End.Throwing u) s) set k go v e = absurd (Prim.cc e)
+goes_on (Over (End.Thrown u) s) set k go v e = absurd (Prim.cc e)
+goes_on (Over End.Quit s) set k go v e = absurd (Prim.cc e)
+goes_on (Over End.Closed s) set k go v e = absurd (Prim.cc e)
+goes_on (Over End.Starved s) set k go v e = absurd (Prim.cc e)
+goes_on (Calls c s f) set k go v e = absurd (ended_needs e)
 
 evaluated_is : (set : Setup) (k : ℕ) (c : Definitions) (a : Tree) (go : Tree → Definitions → Attempt) (v : Tree) → (eval (in_mode set Mode.Item k) c a []).outcome ≡ Ended (End.Value v)
     → evaluated set k c a go ≡ go v (eval (in_mode set Mode.Item k) c a []).definitions
 unfolding eval
-evaluated_is set k c a go v e = goes_on (whole (in_mode set Mode.Item k) c a) set.names k go v e
+evaluated_is set k c a go v e = goes_on (whole (in_mode set Mode.Item k) c a) set k go v e
 
 at_once : (value value' : Tree) (a b : Attempt) → value ≡ value' → a ≡ b → DeliversAtOnce value b → DeliversAtOnce value' a
 at_once value value' a b e f one = record { after = one.after; delivers = f ∙ (one.delivers ∙ ap (λ v. Delivers v one.after) e) }

@@ -8,3 +8,5 @@ mod Cuts
 mod Quiet
 mod Events
 mod Texts
+mod Guards
+mod Throws

@@ -115,6 +115,32 @@ printing_transcript : transcript_text texts by_itself false printing printing_jo
 unfolding digits printing printing_journal row worked
 printing_transcript = refl
 
+-- n = 0; SetSharedVariable[n]; WaitAll[{ParallelSubmit[n++], ParallelSubmit[n++]}]; n
+increments : List Reading
+increments =
+    reads (
+    of Builtin.Set (n' ∷ int 0 ∷ [])
+    ∷ of Builtin.SetSharedVariable (n' ∷ [])
+    ∷ of Builtin.WaitAll (of Builtin.List (of Builtin.ParallelSubmit (increment_n ∷ []) ∷ of Builtin.ParallelSubmit (increment_n ∷ []) ∷ []) ∷ [])
+    ∷ n' ∷ [])
+
+increments_journal : List Entry
+increments_journal =
+    by 0 (Event.Submit 1) ∷ by 0 (Event.Submit 2) ∷ by 0 (Event.Yield (Wait.All (1 ∷ 2 ∷ [])))
+    ∷ by 0 (Event.Take 1) ∷ by 0 (Event.Access increment_n (int 0)) ∷ by 0 (Event.Deliver 1 (int 0))
+    ∷ by 0 (Event.Take 2) ∷ by 0 (Event.Access increment_n (int 1)) ∷ by 0 (Event.Deliver 2 (int 1))
+    ∷ by 0 Event.Resume ∷ by 0 Event.Close ∷ []
+
+increments_legal : legal by_itself [] increments increments_journal ≡ true
+unfolding increments increments_journal row worked
+increments_legal = refl
+
+increments_shown :
+    transcript_text texts by_itself true increments increments_journal 4
+    ≡ Some (codes "Out[1]= 0\nOut[3]= {0, 1}\nOut[4]= 2\n1 0 Submit 1\n2 0 Submit 2\n3 0 Yield All 1 2\n4 0 Take 1\n5 0 Access Increment[n] | 0\n6 0 Deliver 1 0\n7 0 Take 2\n8 0 Access Increment[n] | 1\n9 0 Deliver 2 1\n10 0 Resume\n11 0 Close\n")
+unfolding digits increments increments_journal row worked
+increments_shown = refl
+
 -- ---- lines
 
 waits : entry_line spelling 12 (by 0 (Event.Yield (Wait.Try (1 ∷ 2 ∷ [])))) ≡ codes "12 0 Yield Try 1 2\n"
