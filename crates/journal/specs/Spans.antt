@@ -2,6 +2,7 @@
 --     Span, sections        a section from its Enter to its end, with its locks; those of a journal
 --     NeverOverlap          of two that share a lock the later begins after the earlier's end
 --     results               the results that a journal gives to an item
+--     NoneByLoss            no loss gives one of some items its result
 use Rattle.std.specs.Prelude.{ℕ, suc, ◌<◌, ◌≡◌, List, [], ◌∷◌, ◌++◌, Bool, true, false, ◌&&◌, ◌==◌, Some, None}
 use Rattle.expr_tree.specs.declared.sym.Sym.{Sym}
 use Rattle.expr_tree.specs.Tree.{Tree}
@@ -51,3 +52,16 @@ entry_results set c p id = elim (item_at c id) [ None ↦ [] | Some q ↦ result
 abbrev pub results : Setup → Core → List Posted → ℕ → List Tree
 results set c [] id = []
 results set c (p ∷ ps) id = entry_results set c p id ++ results set (effect set c p) ps id
+
+-- those of them that losses give
+abbrev pub by_loss : Event → List Tree → List Tree
+by_loss (Event.Lose cause) vs = vs
+by_loss _ vs = []
+
+abbrev pub results_by_loss : Setup → Core → List Posted → ℕ → List Tree
+results_by_loss set c [] id = []
+results_by_loss set c (p ∷ ps) id = by_loss p.entry.event (entry_results set c p id) ++ results_by_loss set (effect set c p) ps id
+
+abbrev pub NoneByLoss : Setup → Core → List Posted → List ℕ → Type 0
+NoneByLoss set c ps [] = Unit {0}
+NoneByLoss set c ps (id ∷ ids) = (results_by_loss set c ps id ≡ []) × NoneByLoss set c ps ids

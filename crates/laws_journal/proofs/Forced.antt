@@ -123,14 +123,14 @@ first_is : (id : ℕ) (o : Option ℕ) → is_id id o ≡ true → id ≡ or_zer
 first_is id None h = absurd (true≢false (sym h))
 first_is id (Some i) h = eqb-true id i h
 
-waiting_evaluation : (c : Core) → is_some c.wait ≡ true → attempt_of c 0 ≡ None → in_evaluation c 0 ≡ true → ⊥
+pub waiting_evaluation : (c : Core) → is_some c.wait ≡ true → attempt_of c 0 ≡ None → in_evaluation c 0 ≡ true → ⊥
 waiting_evaluation c waits none ok = go (either (has_attempt c 0) _ ok)
   where
     go : (has_attempt c 0 ≡ true) ⊎ (((0 == 0) && no_wait c) ≡ true) → ⊥
     go (inl h) = true≢false (sym h ∙ ap is_some none)
     go (inr h) = true≢false (sym waits ∙ is_not (is_some c.wait) h)
 
-no_wait_now : (c : Core) → is_some c.wait ≡ true → no_wait c ≡ true → ⊥
+pub no_wait_now : (c : Core) → is_some c.wait ≡ true → no_wait c ≡ true → ⊥
 no_wait_now c waits h = true≢false (sym waits ∙ is_not _ h)
 
 outside_attempt : (set : Setup) (c : Core) (h : Handed) (d : Definitions) (e : Event)

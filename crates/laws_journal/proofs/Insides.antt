@@ -61,15 +61,15 @@ attempts_ordered set k (Item.Batch es) d = applications-ordered set k es d []
 
 -- ---- a kernel in a journal
 
-abbrev holds_some : Kernel → Bool
+abbrev pub holds_some : Kernel → Bool
 holds_some row = not (is_empty row.locks)
 
 -- the locks that an entry takes are some
-abbrev TakesSome : Event → Type 0
+abbrev pub TakesSome : Event → Type 0
 TakesSome (Event.Enter ls) = is_empty ls ≡ false
 TakesSome _ = Unit {0}
 
-takes_some : (set : Setup) (c : Core) (p : Posted) → allowed set c p ≡ true → TakesSome p.entry.event
+pub takes_some : (set : Setup) (c : Core) (p : Posted) → allowed set c p ≡ true → TakesSome p.entry.event
 takes_some set c p ok = go p.entry.event (both _ _ ok).1
   where
     go : (e : Event) → permitted set c p.handed p.entry.kernel e ≡ true → TakesSome e
@@ -95,7 +95,7 @@ answered set (Call.Enter ls) f (Event.Enter ms) row r some next q =
 answered set Call.Leave f Event.Leave row r some next q = subst (λ z. Ordered false (f z)) (some_is q) (next _)
 answered set _ f _ row r some next q = absurd (none≢some q)
 
-attempt_moves : (set : Setup) (k : ℕ) (items : List (Item × Bundle)) (x y : Phase) (e : Event) (row : Kernel) → TakesSome e
+pub attempt_moves : (set : Setup) (k : ℕ) (items : List (Item × Bundle)) (x y : Phase) (e : Event) (row : Kernel) → TakesSome e
     → StandsIn x (holds_some row) → moved set k items x e ≡ Some y → StandsIn y (holds_some (kernel_after e row))
 attempt_moves set k items (Free d) y (Event.Take id) row some s q =
     let t = opened (item_of items id) (λ i. Some (At id _)) y q in

@@ -20,3 +20,5 @@ mod Quieted
 mod Seen
 mod Composed
 mod Emptied
+mod Waiting
+mod Masters

@@ -29,10 +29,10 @@ moved_over (q ∷ qs) p es = ap (λ xs. q.entry ∷ xs) (moved_over qs p es)
 -- ---- walks
 
 module _ (set : Setup) (journal : List Entry) where
-  abbrev Good : Walk → Type 0
+  abbrev pub Good : Walk → Type 0
   Good w = Along set journal w w.rest
 
-  post_good : (h : Handed) (w : Walk) (e : Entry) (es : List Entry) (v : Walk) → Along set journal w (e ∷ es) → post set h w e es ≡ Goes v → Good v
+  pub post_good : (h : Handed) (w : Walk) (e : Entry) (es : List Entry) (v : Walk) → Along set journal w (e ∷ es) → post set h w e es ≡ Goes v → Good v
   post_good h w e es v good r =
       let s = one_step (step set w.core p) after v r in
       subst Good s.2 (record {

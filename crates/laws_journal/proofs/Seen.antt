@@ -197,7 +197,7 @@ others_pass_from set plan k (p ∷ ps) v none =
     let passed : View = record v { items = with_handed p.entry.event p.handed v.items } in
     ap (λ o. given o (λ w. watch_from set plan k w ps)) (chosen (p.entry.kernel == k) (Some passed) _ (is_not (p.entry.kernel == k) parts.0)) ∙ others_pass_from set plan k ps passed parts.1
 
-watch_both : (set : Setup) (plan : Plan) (k : ℕ) (v w : View) (ps qs : List Posted) → watch_from set plan k v ps ≡ Some w → watch_from set plan k v (ps ++ qs) ≡ watch_from set plan k w qs
+pub watch_both : (set : Setup) (plan : Plan) (k : ℕ) (v w : View) (ps qs : List Posted) → watch_from set plan k v ps ≡ Some w → watch_from set plan k v (ps ++ qs) ≡ watch_from set plan k w qs
 watch_both set plan k v w [] qs r = ap (λ x. watch_from set plan k x qs) (some_is r)
 watch_both set plan k v w (p ∷ ps) qs r =
     let t = opened (watch set plan k v p) (λ u. watch_from set plan k u ps) w r in

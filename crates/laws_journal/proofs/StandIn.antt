@@ -19,9 +19,9 @@ matched Lost o h = absurd h
 abbrev attempt_in : Option Kernel → Option ℕ
 attempt_in o = elim o [ None ↦ None | Some x ↦ x.attempt ]
 
-one_entry : (set : Setup) (plan : Plan) (c : Core) (p : Posted) (v w : View) (row : Kernel) → allowed set c p ≡ true → nth c.kernels 0 ≡ Some row → Synced v.phase row.attempt → watch set plan 0 v p ≡ Some w
+pub stand_in_enters : (set : Setup) (plan : Plan) (c : Core) (p : Posted) (v w : View) (row : Kernel) → allowed set c p ≡ true → nth c.kernels 0 ≡ Some row → Synced v.phase row.attempt → watch set plan 0 v p ≡ Some w
     → (row' : Kernel) × (nth (effect set c p).kernels 0 ≡ Some row') × Synced w.phase row'.attempt
-one_entry set plan c p v w row ok at s q = go (p.entry.kernel == 0) refl q
+stand_in_enters set plan c p v w row ok at s q = go (p.entry.kernel == 0) refl q
   where
     e : Event
     e = p.entry.event
@@ -42,17 +42,26 @@ one_entry set plan c p v w row ok at s q = go (p.entry.kernel == 0) refl q
           subst (λ z. Synced z.phase (kernel_after e row).attempt) (some_is t.2) (attempt_after set c p.handed v v.phase t.0 e row permits s t.1),
         )
 
-all_entries : (set : Setup) (plan : Plan) (c z : Core) (ps : List Posted) (v w : View) (row : Kernel) → nth c.kernels 0 ≡ Some row → Synced v.phase row.attempt
-    → replay_from set c ps ≡ Some z → watch_from set plan 0 v ps ≡ Some w → Synced w.phase (attempt_of z 0)
-all_entries set plan c z [] v w row at s r q =
-    subst (λ y. Synced y.phase (attempt_of z 0)) (some_is q) (subst (λ x. Synced v.phase (attempt_of x 0)) (some_is r) (subst (Synced v.phase) (sym (ap attempt_in at)) s))
-all_entries set plan c z (p ∷ ps) v w row at s r q =
+-- kernel 0 has a row, and in it the attempt of the stand-in's phase
+pub record Placed (c : Core) (v : View) : Type 0 where
+  pub row : Kernel
+  pub at : nth c.kernels 0 ≡ Some row
+  pub synced : Synced v.phase row.attempt
+
+pub placed_from : (set : Setup) (plan : Plan) (c z : Core) (ps : List Posted) (v w : View) → Placed c v → replay_from set c ps ≡ Some z → watch_from set plan 0 v ps ≡ Some w → Placed z w
+placed_from set plan c z [] v w here r q = subst (Placed z) (some_is q) (subst (λ x. Placed x v) (some_is r) here)
+placed_from set plan c z (p ∷ ps) v w here r q =
     let parts = split (allowed set c p) (replay_from set (effect set c p) ps) z r in
     let t = opened (watch set plan 0 v p) (λ u. watch_from set plan 0 u ps) w q in
-    let n = one_entry set plan c p v t.0 row parts.0 at s t.1 in
-    all_entries set plan (effect set c p) z ps t.0 w n.0 n.1 n.2 parts.1 t.2
+    let n = stand_in_enters set plan c p v t.0 here.row parts.0 here.at here.synced t.1 in
+    placed_from set plan (effect set c p) z ps t.0 w (record { row = n.0; at = n.1; synced = n.2 }) parts.1 t.2
+
+pub placed : (set : Setup) (plan : Plan) (ps : List Posted) (c : Core) (v : View) → replay_from set (start set) ps ≡ Some c → kernel_run set plan 0 ps ≡ Some v → Placed c v
+placed set plan ps c v r q = placed_from set plan (start set) c ps first_view v (record { row = new_kernel false; at = refl; synced = refl }) r q
 
 pub each_phase_is_attempt : (set : Setup) (plan : Plan) (k : ℕ) (ps : List Posted) (c : Core) (v : View) → k ≤ set.kernels
     → replay_from set (start set) ps ≡ Some c → kernel_run set plan k ps ≡ Some v → Matches v.phase (attempt_of c k)
-each_phase_is_attempt set plan zero ps c v h r q = matched v.phase (attempt_of c 0) (all_entries set plan (start set) c ps first_view v (new_kernel false) refl refl r q)
+each_phase_is_attempt set plan zero ps c v h r q =
+    let here = placed set plan ps c v r q in
+    matched v.phase (attempt_of c 0) (subst (Synced v.phase) (sym (ap attempt_in here.at)) here.synced)
 each_phase_is_attempt set plan (suc k) ps c v h r q = phase_is_attempt set plan k ps c v h r q

@@ -68,10 +68,10 @@ module _ (plan : Plan) where
       let t = view_split set k s.0 z ps qs s.2 in
       (t.0, ap (λ o. given o (λ w. watch_from set plan k w ps)) s.1 ∙ t.1, t.2)
 
-  abbrev Seen : Setup → List Posted → Type 0
+  abbrev pub Seen : Setup → List Posted → Type 0
   Seen set ps = (v : View) × (kernel_run set plan 0 ps ≡ Some v)
 
-  seen_before : (set : Setup) (ps qs : List Posted) → Seen set (ps ++ qs) → Seen set ps
+  pub seen_before : (set : Setup) (ps qs : List Posted) → Seen set (ps ++ qs) → Seen set ps
   seen_before set ps qs s = let t = view_split set 0 first_view s.0 ps qs s.1 in (t.0, t.1)
 
   -- the last entry, where it is kernel 0's
@@ -131,13 +131,13 @@ module _ (plan : Plan) where
       rows_after = ap (λ k. change_at k (kernel_after e) c.kernels) zero' ∙ ap (change_at 0 (kernel_after e)) sound.lone.rows
 
   -- one post, taken apart
-  record Step (set : Setup) (h : Handed) (c : Core) (ps : List Posted) (e : Entry) (es : List Entry) (v : Walk) : Type 0 where
-    ok : allowed set c (record { entry = e; handed = h }) ≡ true
-    core : v.core ≡ effect set c (record { entry = e; handed = h })
-    posted : v.posted ≡ ps ++ record { entry = e; handed = h } ∷ []
-    rest : v.rest ≡ es
+  pub record Step (set : Setup) (h : Handed) (c : Core) (ps : List Posted) (e : Entry) (es : List Entry) (v : Walk) : Type 0 where
+    pub ok : allowed set c (record { entry = e; handed = h }) ≡ true
+    pub core : v.core ≡ effect set c (record { entry = e; handed = h })
+    pub posted : v.posted ≡ ps ++ record { entry = e; handed = h } ∷ []
+    pub rest : v.rest ≡ es
 
-  stepped : (set : Setup) (h : Handed) (w : Walk) (e : Entry) (es : List Entry) (v : Walk) → post set h w e es ≡ Goes v → Step set h w.core w.posted e es v
+  pub stepped : (set : Setup) (h : Handed) (w : Walk) (e : Entry) (es : List Entry) (v : Walk) → post set h w e es ≡ Goes v → Step set h w.core w.posted e es v
   stepped set h w e es v r =
       let s = one_step (step set w.core p) after v r in
       let t = split (allowed set w.core p) (Some (effect set w.core p)) s.0 s.1 in
@@ -159,16 +159,16 @@ module _ (plan : Plan) where
       subst (λ c. Sound set c v.posted) (sym s.core) (subst (λ ps. Sound set (effect set w.core p) ps) (sym s.posted) (sound_after set w.core w.posted p sound s.ok))
 
   -- what was posted stays in front
-  abbrev Begun : List Posted → Walk → List Entry → Type 0
+  abbrev pub Begun : List Posted → Walk → List Entry → Type 0
   Begun ps w rest = (further : List Posted) × (w.posted ≡ ps ++ further)
 
-  begun_post : (set : Setup) (ps : List Posted) (h : Handed) (w : Walk) (e : Entry) (es : List Entry) (v : Walk) → Begun ps w (e ∷ es) → post set h w e es ≡ Goes v → Begun ps v v.rest
+  pub begun_post : (set : Setup) (ps : List Posted) (h : Handed) (w : Walk) (e : Entry) (es : List Entry) (v : Walk) → Begun ps w (e ∷ es) → post set h w e es ≡ Goes v → Begun ps v v.rest
   begun_post set ps h w e es v b r =
       let s = stepped set h w e es v r in
       let p : Posted = record { entry = e; handed = h } in
       (b.0 ++ p ∷ [], s.posted ∙ ap (λ xs. xs ++ p ∷ []) b.1 ∙ append_assoc ps b.0 (p ∷ []))
 
-  begun_at : (w : Walk) → Begun w.posted w w.rest
+  pub begun_at : (w : Walk) → Begun w.posted w w.rest
   begun_at w = ([], sym (append-nil w.posted))
 
   abbrev Fine : Setup → Walk → Type 0
@@ -208,7 +208,7 @@ module _ (plan : Plan) where
       }
 
   -- an entry is the master's with this event
-  is_entry : (event : Event) (e : Entry) → ((e.kernel == 0) && is_event event e.event) ≡ true → e ≡ record { kernel = 0; event = event }
+  pub is_entry : (event : Event) (e : Entry) → ((e.kernel == 0) && is_event event e.event) ≡ true → e ≡ record { kernel = 0; event = event }
   is_entry event e q =
       let parts = both (e.kernel == 0) (is_event event e.event) q in
       let number = eqb-true e.kernel 0 parts.0 in

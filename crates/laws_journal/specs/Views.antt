@@ -5,11 +5,16 @@
 --     own_entries, none_by          the entries of one kernel; whether there is none
 --     OthersPass                    entries of others change nothing of a kernel but the items that it has seen
 --     OwnCounted, LivesUnlessLost   a kernel's count is that of its entries; it lives unless its view is lost
+--     StretchByStretch              a journal that grows by entries: the core and a kernel's view go on from where they were
+--     WaitLocksAgree                in a wait kernel 0 holds locks where the stand-in's attempt is inside a section
 use Rattle.std.specs.Prelude.{◌≡◌, ℕ, suc, ◌≤◌, List, [], ◌∷◌, ◌++◌, map, length, Bool, true, false, ◌&&◌, not, ◌==◌, Some}
+use Rattle.journal.specs.Places.{is_some}
 use Rattle.journal.specs.Closure.{Bundle}
 use Rattle.journal.specs.Entry.{Event, Item, Handed, Posted}
-use Rattle.journal.specs.Core.{Setup, Core, Queued, lives, allowed, effect, replay}
-use Rattle.journal.specs.Follow.{Plan, View, is_lost, with_handed, watch, kernel_run}
+use Rattle.journal.specs.Core.{Setup, Core, Queued, lives, holds_nothing, allowed, effect, replay, replay_from}
+use Rattle.journal.specs.Follow.{Plan, View, is_lost, with_handed, watch, watch_from, kernel_run}
+use Rattle.journal.specs.Run.{is_resume}
+use Rattle.laws_journal.specs.Laws.{StandsIn}
 
 -- at Submit an item, at Yield definitions
 abbrev pub handed_for : Event → Handed → Handed
@@ -66,3 +71,22 @@ abbrev pub LivesUnlessLost : Type 0
 LivesUnlessLost =
     (set : Setup) (plan : Plan) (k : ℕ) (ps : List Posted) (c : Core) (v : View) → suc k ≤ set.kernels → replay set ps ≡ Some c → kernel_run set plan (suc k) ps ≡ Some v
     → lives c (suc k) ≡ not (is_lost v.phase)
+
+-- ---- stretches
+
+abbrev pub StretchByStretch : Type 0
+StretchByStretch =
+    ((set : Setup) (ps more : List Posted) (c : Core) → replay set ps ≡ Some c → replay set (ps ++ more) ≡ replay_from set c more)
+    × ((set : Setup) (plan : Plan) (k : ℕ) (ps more : List Posted) (v : View) → kernel_run set plan k ps ≡ Some v → kernel_run set plan k (ps ++ more) ≡ watch_from set plan k v more)
+
+-- none of these ends the wait
+abbrev pub none_resumes : List Posted → Bool
+none_resumes [] = true
+none_resumes (p ∷ ps) = not (is_resume p.entry.event) && none_resumes ps
+
+-- from a point of a wait where that is so, as after a Yield of a master that holds nothing, up to every other point of the wait
+abbrev pub WaitLocksAgree : Type 0
+WaitLocksAgree =
+    (set : Setup) (plan : Plan) (ps more : List Posted) (c z : Core) (v w : View) → replay set ps ≡ Some c → kernel_run set plan 0 ps ≡ Some v → is_some c.wait ≡ true
+    → StandsIn v.phase (not (holds_nothing c 0)) → none_resumes more ≡ true → replay_from set c more ≡ Some z → watch_from set plan 0 v more ≡ Some w
+    → (is_some z.wait ≡ true) × StandsIn w.phase (not (holds_nothing z 0))

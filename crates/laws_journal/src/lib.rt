@@ -4,8 +4,9 @@
 #![tactic(auto)]
 
 ghost use Rattle.laws_journal.specs.Laws.{SectionsApart, OneResult, AllHaveResults, RunGrows, LegalReplays, OneJournal, EntryByEntry, AttemptsAgree, PhaseIsAttempt, ClosureIsLeast, CutsPartition, AttemptsOrdered, LocksAgree, QuietComputed, QuietNamedComputed};
+ghost use Rattle.laws_journal.specs.Masters.{CallsKeepSections, CellsKeepSections};
 ghost use Rattle.laws_journal.specs.Runs.{BegunReplays, CellsJoin, LegalComposed, LegalStarted, RunPosts, UsedUpStays};
-ghost use Rattle.laws_journal.specs.Views.{HandedNeeded, ItemsAgree, ItemsStay, LivesUnlessLost, OthersPass, OwnCounted};
+ghost use Rattle.laws_journal.specs.Views.{HandedNeeded, ItemsAgree, ItemsStay, LivesUnlessLost, OthersPass, OwnCounted, StretchByStretch, WaitLocksAgree};
 
 /// Two sections that share a lock never overlap, in whatever is a replay.
 pub fn sections_never_overlap()
@@ -128,4 +129,20 @@ pub fn cells_are_run_in_turn()
 /// Where no entry is left, a run meets none that is another.
 pub fn used_up_journals_stay_so()
     ensures law { UsedUpStays }
+{}
+
+/// Over a stretch of entries the core and a kernel's view go on from where they were.
+pub fn stretches_follow_one_another()
+    ensures law { StretchByStretch }
+{}
+
+/// In a wait kernel 0 holds locks exactly where the stand-in's attempt is inside a section.
+pub fn locks_in_a_wait_are_the_section()
+    ensures law { WaitLocksAgree }
+{}
+
+/// The master's open section is what kernel 0 holds between the master's calls, and at the end of a cell.
+pub fn masters_section_is_held_by_kernel_0()
+    ensures calls { CallsKeepSections }
+    ensures cells { CellsKeepSections }
 {}
