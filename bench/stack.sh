@@ -33,7 +33,7 @@ least() {
 blank=$'\n\n'
 deep=$(nested 505 '{' 1 '}')
 
-[ -n "${WOLFPAR:-}" ] || "$top/wolfpar" --kernels 0 </dev/null || exit 1  # builds it
+[ -n "${WOLFPAR:-}" ] || "$top/prove" || exit 1
 least 'nothing' '1'
 least 'calls of a name without rules' "$(nested 255 'f[' x ']')"
 least 'a sum in a sum' "$(nested 254 '1 + f[' x ']')"
