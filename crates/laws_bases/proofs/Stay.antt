@@ -17,7 +17,7 @@ use Rattle.laws_relations.proofs.Simulation.{evenly, Ends, value, stopped, throw
 use Rattle.laws_relations.proofs.Kin.{Kin}
 use Rattle.laws_relations.proofs.Passes.{pass-both}
 use Rattle.laws_relations.proofs.States.{LikeState, seen-like, written-like, put_locals-like, put_back-like}
-use Rattle.laws_numbers.proofs.Paying.{Paid, Ensures, Bounded, whole_pays, used_over}
+use Rattle.laws_numbers.proofs.Paying.{Ensures, Bounded, whole_pays, used_over}
 use Rattle.laws_bases.specs.Kept.{IsKeptOutcome, StaysKept, BasesStay}
 use Rattle.laws_bases.proofs.Kin.{S, tree-like, definitions-like, tree-kept, definitions-kept}
 

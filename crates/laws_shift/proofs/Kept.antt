@@ -15,7 +15,7 @@ use Rattle.laws_relations.proofs.Kin.{Kin}
 use Rattle.laws_relations.proofs.Passes.{pass-both}
 use Rattle.laws_relations.proofs.States.{LikeState, seen-like, written-like, put_locals-like, put_back-like}
 use Rattle.laws_relations.proofs.Shift.{shifted_above, shift_is_faithful}
-use Rattle.laws_numbers.proofs.Paying.{Paid, Ensures, Bounded, whole_pays, used_over}
+use Rattle.laws_numbers.proofs.Paying.{Ensures, Bounded, whole_pays, used_over}
 use Rattle.laws_shift.specs.Shift.{shift, shift_definitions, shift_outcome, shift_evaluation, ShiftedNames}
 use Rattle.laws_shift.proofs.Shifting.{S, shifts, definitions-shift, tree-is, definitions-are}
 

@@ -50,6 +50,25 @@ steps_at_the_stop : stops.steps ≡ 0
 unfolding eval row worked
 steps_at_the_stop = refl
 
+-- Catch[Module[{x = Module[{x = Module[{x = Throw[1]}, x]}, x]}, x]]: three numbers, and two steps, since a throw gives up the Modules
+abbrev around : Tree → Tree
+around e = of Builtin.Module (list (equals x' e ∷ []) ∷ x' ∷ [])
+
+abbrev given_up : Evaluation
+given_up = eval (in_cell usual) empty (of Builtin.Catch (around (around (around (of Builtin.Throw (int 1 ∷ [])))) ∷ [])) []
+
+value_of_the_throw : given_up.outcome ≡ value (int 1)
+unfolding eval row worked
+value_of_the_throw = refl
+
+numbers_given_up : given_up.definitions.module_number ≡ 4
+unfolding eval row worked
+numbers_given_up = refl
+
+steps_given_up : given_up.steps ≡ 2
+unfolding eval row worked
+steps_given_up = refl
+
 -- Print[] makes a call, and `used` is true: the number after it is that of the definitions after the call, whatever it is
 abbrev called : Evaluation
 called =
