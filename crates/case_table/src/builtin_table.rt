@@ -8,7 +8,7 @@ use expr_tree::Attrs;
 use semantics::Builtin;
 
 /// The number of the names of the built-in table.
-pub const BUILTINS: usize = 166;
+pub const BUILTINS: usize = 168;
 
 // each name of the built-in table in the order of its places, its text, and the attributes that it has at the start
 macro_rules! each_builtin {
@@ -55,6 +55,8 @@ macro_rules! each_builtin {
             (Do "Do" [hold_all protected])
             (Table "Table" [hold_all protected])
             (Sum "Sum" [hold_all protected])
+            (Throw "Throw" [protected])
+            (Catch "Catch" [hold_first protected])
             (Hold "Hold" [hold_all protected])
             (HoldComplete "HoldComplete" [hold_all_complete protected])
             (HoldPattern "HoldPattern" [hold_all protected])
