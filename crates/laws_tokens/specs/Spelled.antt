@@ -1,6 +1,6 @@
 -- Lists of tokens, and a text of which they are the tokens.
 --     AreTokens            each is the text of a token of its kind
---     spelled              the tokens, each behind a space or at the beginning of a line
+--     gap, spelled         a line feed or a space; the tokens, each behind one of these
 --     BeginsText           some text that is read begins with these tokens
 --     IsTextOffset         where the first token begins up to which no text that is read begins with the tokens; the end counts as one
 use Rattle.std.specs.Prelude.{◌≡◌, ℕ, suc, ◌<◌, ◌≤◌, Bool, true, false, List, [], ◌∷◌, ◌++◌, length, take, drop}
@@ -15,7 +15,6 @@ abbrev pub AreTokens : List Lexeme → Type 0
 AreTokens [] = Unit {0}
 AreTokens (l ∷ ls) = IsPart (Whole l.kind) l.text × AreTokens ls
 
--- a line feed or a space
 abbrev pub gap : Bool → ℕ
 gap true = 10
 gap false = 32
