@@ -1,6 +1,6 @@
 -- A text is a part of one kind at most, so the longest part at a place is one.
-use Rattle.std.proofs.Common.{◌≡◌, refl, sym, ap, ap₂, ◌∙◌, subst, subst₂, ℕ, zero, suc, pred, ◌+◌, ◌<◌, ◌≤◌, Bool, true, false, List, [], ◌∷◌, ◌++◌, length, Option, Some, None, true≢false, arith, append-nil, length-append, eqb-true, le_antisymm}
-use Rattle.std.specs.Prelude.{◌==◌, ◌&&◌, codes}
+use Rattle.std.proofs.Common.{◌≡◌, refl, sym, ap, ap₂, ◌∙◌, subst, ℕ, suc, pred, ◌+◌, ◌<◌, Bool, true, false, List, [], ◌∷◌, ◌++◌, length, Some, true≢false, arith, append-nil, length-append, eqb-true}
+use Rattle.std.specs.Prelude.{◌==◌}
 use Rattle.script_text.specs.Bytes.{in_name, is_digit, is_name, all, begins_with}
 use Rattle.syntax.specs.Tokens as tok
 use Rattle.syntax.specs.Tokens.{Kind, Token, Lexed, LexFault, Skips, and_token, lex_from, lex, BadByte}
@@ -8,7 +8,7 @@ use Rattle.laws_tokens.specs.Texts.{Part, Whole, IsPart, IsNumber, IsWide, IsMar
 use Rattle.laws_tokens.specs.Texts as of
 use Rattle.laws_tokens.specs.Longest.{IsLongest, HasNone, IsCut, nothing, token, passed, faulty, strange, stopped, passes, fault_of}
 use Rattle.laws_tokens.specs.Laws.{TokensAreThese}
-use Rattle.laws_tokens.proofs.Fronts.{First, White, Digit, Letter, Mark, Quote, Hash, Other, first, can_be, part_can, both_true}
+use Rattle.laws_tokens.proofs.Fronts.{later, all_middle, First, White, Digit, Letter, Mark, Quote, Hash, Other, first, can_be, part_can, both_true}
 use Rattle.laws_tokens.proofs.Blanks.{name_only, same_rest}
 use Rattle.laws_tokens.proofs.Strings.{Ends, quote, slash, inside_front}
 use Rattle.laws_tokens.proofs.Comments.{nested_front, sign_bound}
@@ -22,10 +22,6 @@ use Rattle.laws_tokens.proofs.Cuts.{scan_stands, lexed_by}
 narrow_or_wide : (t : List ℕ) → IsNumber t → IsWide t → ⊥
 narrow_or_wide t i j = omega (arith, i.fits, j.wide)
 
-all_middle : (test : ℕ → Bool) (p v : List ℕ) (m : ℕ) → all test (p ++ (m ∷ v)) ≡ true → test m ≡ true
-all_middle test [] v m a = (both_true (test m) (all test v) a).0
-all_middle test (c ∷ p) v m a = all_middle test p v m (both_true (test c) (all test (p ++ (m ∷ v))) a).1
-
 name_or_blank : (t : List ℕ) → is_name t ≡ true → IsMarked t → ⊥
 name_or_blank [] n i = true≢false (sym n)
 name_or_blank (c ∷ t) n i = go i.marks i.only i.some i.is
@@ -35,9 +31,6 @@ name_or_blank (c ∷ t) n i = go i.marks i.only i.some i.is
     go (m ∷ marks) a s e =
         let h = all_middle in_name i.before (marks ++ i.behind) m (ap (all in_name) (sym e) ∙ name_only c t n) in
         true≢false (sym h ∙ ap in_name (eqb-true m 95 (both_true (m == 95) (all (λ d. d == 95) marks) a).0))
-
-later : (c d : ℕ) (cs ds : List ℕ) → c ∷ cs ≡ d ∷ ds → cs ≡ ds
-later c d cs ds e = cc
 
 no_longer_inside : (x y z : List ℕ) (d : ℕ) → Inside x → Inside y → Ends (d ∷ []) → x ≡ y ++ (d ∷ []) → ⊥
 no_longer_inside x y z d i j h e =
@@ -229,7 +222,7 @@ scan_is c cs p front rest l = go (scan_stands c cs)
 abbrev AsLexed : ℕ → List ℕ → Lexed → Type 0
 AsLexed at text l = l ≡ lex_from at 0 text
 
-over : (ds rest : List ℕ) (at : ℕ) → lex_from at (length ds) (ds ++ rest) ≡ lex_from (at + length ds) 0 rest
+pub over : (ds rest : List ℕ) (at : ℕ) → lex_from at (length ds) (ds ++ rest) ≡ lex_from (at + length ds) 0 rest
 over [] rest at = ap (λ k. lex_from k 0 rest) (omega arith)
 over (d ∷ ds) rest at = over ds rest (suc at) ∙ ap (λ k. lex_from k 0 rest) (omega arith)
 

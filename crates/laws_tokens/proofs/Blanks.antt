@@ -1,14 +1,11 @@
 -- Names and blanks at the front of a text.
-use Rattle.std.proofs.Common.{◌≡◌, refl, sym, ap, ap₂, ◌∙◌, subst, ℕ, zero, suc, ◌+◌, ◌<◌, ◌≤◌, ◌⊎◌, inl, inr, ⊎_elim, Bool, true, false, cond, List, [], ◌∷◌, ◌++◌, length, take, drop, true≢false, arith, append_assoc, length-append, take-append-drop, length-take, length-take-le, leb-true, leb-false, eqb-true, le_antisymm}
+use Rattle.std.proofs.Common.{◌≡◌, refl, sym, ap, ap₂, ◌∙◌, subst, ℕ, zero, suc, ◌+◌, ◌<◌, ◌≤◌, Bool, true, false, cond, List, [], ◌∷◌, ◌++◌, length, take, drop, true≢false, arith, append_assoc, length-append, take-append-drop, length-take-le, leb-true, leb-false, eqb-true}
 use Rattle.std.specs.Prelude.{◌==◌, ◌&&◌, ◌||◌, leb}
-use Rattle.std.proofs.lemmas.Bool.{cases_order}
 use Rattle.script_text.specs.Bytes.{begins_name, in_name, is_name, is_digit, run, all, begins_with}
-use Rattle.syntax.specs.Tokens as tok
-use Rattle.syntax.specs.Tokens.{Kind, Scan, Takes, Faults, name_length, blank_after, name_scan}
+use Rattle.syntax.specs.Tokens.{Kind, Scan, Takes, name_length, blank_after, name_scan}
 use Rattle.laws_tokens.specs.Texts.{Part, Whole, IsPart, IsOptional, IsMarked}
-use Rattle.laws_tokens.specs.Longest.{IsLongest}
-use Rattle.laws_tokens.proofs.Fronts.{First, Letter, Mark, first, can_be, name_first, mark_first, longest_by, Split, split, within_run, Stops, taken, dropped, both_true}
-use Rattle.laws_tokens.proofs.Runs.{answer, Stands, stands}
+use Rattle.laws_tokens.proofs.Fronts.{First, Letter, Mark, first, can_be, name_first, mark_first, longest_by, Split, split, within_run, dropped, both_true}
+use Rattle.laws_tokens.proofs.Runs.{Stands, stands}
 
 -- ---- a name, or nothing
 

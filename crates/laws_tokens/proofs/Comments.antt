@@ -1,5 +1,5 @@
 -- Comments at the front of a text.
-use Rattle.std.proofs.Common.{◌≡◌, refl, sym, ap, ap₂, ◌∙◌, subst, subst₂, ℕ, zero, suc, ◌+◌, ◌<◌, ◌≤◌, Bool, true, false, List, [], ◌∷◌, ◌++◌, length, drop, true≢false, arith, append_assoc, append-nil, length-append, eqb-true, leb-true}
+use Rattle.std.proofs.Common.{◌≡◌, refl, sym, ap, ap₂, ◌∙◌, subst, subst₂, ℕ, zero, suc, ◌+◌, ◌≤◌, Bool, true, false, List, [], ◌∷◌, ◌++◌, length, drop, true≢false, arith, append-nil, eqb-true, leb-true}
 use Rattle.std.specs.Prelude.{◌==◌, ◌&&◌, ◌||◌, not, leb, codes}
 use Rattle.script_text.specs.Bytes.{begins_with}
 use Rattle.syntax.specs.Signs.{Sign, sign_text}
@@ -7,9 +7,8 @@ use Rattle.syntax.specs.Tokens as tok
 use Rattle.syntax.specs.Tokens.{Kind, Scan, Skips, Faults, comment_end}
 use Rattle.laws_tokens.specs.Texts.{Part, Whole, IsPart, Nested, ended, begun, left, byte, IsComment, IsOpenComment, IsSign}
 use Rattle.laws_tokens.specs.Texts as of
-use Rattle.laws_tokens.specs.Longest.{IsLongest}
-use Rattle.laws_tokens.proofs.Fronts.{Other, can_be, first, longest_by, both_true}
-use Rattle.laws_tokens.proofs.Runs.{answer, Stands, stands}
+use Rattle.laws_tokens.proofs.Fronts.{first_byte, later, Other, can_be, longest_by, both_true}
+use Rattle.laws_tokens.proofs.Runs.{Stands, stands}
 use Rattle.laws_tokens.proofs.Strings.{all_bound}
 
 -- ---- how a comment goes on
@@ -35,12 +34,6 @@ not_ended d k = go (suc d) [] 0 k refl refl refl
     go m x n (begun k) p q r = let h = ap length q in omega (arith, h)
     go m x n (left k) p q r = let h = ap length q in omega (arith, h)
     go m x n (byte c f g k) p q r = let h = ap length q in omega (arith, h)
-
-first_byte : (c d : ℕ) (cs ds : List ℕ) → c ∷ cs ≡ d ∷ ds → c ≡ d
-first_byte c d cs ds e = cc
-
-later : (c d : ℕ) (cs ds : List ℕ) → c ∷ cs ≡ d ∷ ds → cs ≡ ds
-later c d cs ds e = cc
 
 -- a byte 0 is no more than a byte
 without_zero : (d n : ℕ) (x : List ℕ) → Nested (suc d) (0 ∷ x) n → Nested (suc d) x n

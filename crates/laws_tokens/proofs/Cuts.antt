@@ -1,5 +1,5 @@
 -- The scanner of the tokens takes the longest text that is a token, is passed over or is faulty.
-use Rattle.std.proofs.Common.{◌≡◌, refl, sym, ap, ap₂, ◌∙◌, subst, subst₂, ℕ, zero, suc, pred, ◌+◌, ◌<◌, ◌≤◌, Bool, true, false, List, [], ◌∷◌, ◌++◌, length, drop, Option, Some, None, true≢false, arith}
+use Rattle.std.proofs.Common.{◌≡◌, refl, sym, ap, ap₂, ◌∙◌, subst, subst₂, ℕ, zero, suc, pred, ◌+◌, ◌<◌, Bool, true, false, List, [], ◌∷◌, ◌++◌, length, drop, Some, arith}
 use Rattle.std.specs.Prelude.{◌==◌, codes}
 use Rattle.script_text.specs.Bytes.{is_digit, begins_name, is_white, begins_with}
 use Rattle.syntax.specs.Signs.{signs}
@@ -7,9 +7,9 @@ use Rattle.syntax.specs.Tokens as tok
 use Rattle.syntax.specs.Tokens.{Kind, Scan, Takes, Skips, Faults, Token, Lexed, and_token, lex_from, lex}
 use Rattle.laws_tokens.specs.Texts.{Part, Whole, IsPart}
 use Rattle.laws_tokens.specs.Texts as of
-use Rattle.laws_tokens.specs.Longest.{IsLongest, HasNone, IsCut, nothing, token, passed, faulty, strange, stopped}
+use Rattle.laws_tokens.specs.Longest.{IsLongest, IsCut, nothing, token, passed, faulty, strange, stopped}
 use Rattle.laws_tokens.specs.Laws.{TokensAreLongest}
-use Rattle.laws_tokens.proofs.Fronts.{First, Other, first, first_by, dropped}
+use Rattle.laws_tokens.proofs.Fronts.{Other, first, first_by, dropped}
 use Rattle.laws_tokens.proofs.Runs as runs
 use Rattle.laws_tokens.proofs.Runs.{answer, Stands, stands, space_stands, number_stands, slot_stands}
 use Rattle.laws_tokens.proofs.Blanks.{name_stands, mark_stands}

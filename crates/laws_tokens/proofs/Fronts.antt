@@ -1,8 +1,8 @@
 -- Runs at the front of a text, and what may begin with a byte.
-use Rattle.std.proofs.Common.{◌≡◌, refl, sym, ap, ap₂, ◌∙◌, ℕ, zero, suc, ◌+◌, ◌<◌, ◌≤◌, ◌⊎◌, inl, inr, ⊎_elim, Bool, true, false, List, [], ◌∷◌, ◌++◌, length, take, drop, true≢false, arith, ne_eqb, eqb-true, leb-true, le-leb}
-use Rattle.std.specs.Prelude.{◌==◌, ◌&&◌, ◌||◌, leb, codes}
+use Rattle.std.proofs.Common.{◌≡◌, refl, sym, ap, ap₂, ◌∙◌, ℕ, zero, suc, ◌<◌, ◌≤◌, ◌⊎◌, inl, inr, ⊎_elim, Bool, true, false, List, [], ◌∷◌, ◌++◌, length, take, drop, true≢false, arith, ne_eqb, eqb-true, leb-true, le-leb}
+use Rattle.std.specs.Prelude.{◌==◌, ◌&&◌, ◌||◌, leb}
 use Rattle.std.proofs.lemmas.Bool.{lt-leb}
-use Rattle.script_text.specs.Bytes.{is_letter, is_digit, begins_name, in_name, is_name, is_white, run, all, begins_with}
+use Rattle.script_text.specs.Bytes.{is_letter, is_digit, begins_name, in_name, is_name, is_white, run, all}
 use Rattle.syntax.specs.Signs.{Sign, sign_text}
 use Rattle.syntax.specs.Tokens.{Kind}
 use Rattle.laws_tokens.specs.Texts.{Part, Whole, IsPart, IsOptional, IsMarked, IsHash, one, two}
@@ -24,6 +24,16 @@ taken (x ∷ xs) ys = ap (λ (zs : List ℕ). x ∷ zs) (taken xs ys)
 pub dropped : (xs ys : List ℕ) → drop (length xs) (xs ++ ys) ≡ ys
 dropped [] ys = refl
 dropped (x ∷ xs) ys = dropped xs ys
+
+pub first_byte : (c d : ℕ) (cs ds : List ℕ) → c ∷ cs ≡ d ∷ ds → c ≡ d
+first_byte c d cs ds e = cc
+
+pub later : (c d : ℕ) (cs ds : List ℕ) → c ∷ cs ≡ d ∷ ds → cs ≡ ds
+later c d cs ds e = cc
+
+pub all_middle : (test : ℕ → Bool) (p v : List ℕ) (m : ℕ) → all test (p ++ (m ∷ v)) ≡ true → test m ≡ true
+all_middle test [] v m a = (both_true (test m) (all test v) a).0
+all_middle test (c ∷ p) v m a = all_middle test p v m (both_true (test c) (all test (p ++ (m ∷ v))) a).1
 
 -- ---- runs
 

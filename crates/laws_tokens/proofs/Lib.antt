@@ -6,3 +6,5 @@ mod Comments
 mod Operators
 mod Cuts
 mod Alone
+mod Spaced
+mod Spelling

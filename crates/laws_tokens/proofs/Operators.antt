@@ -1,5 +1,5 @@
 -- Operators and brackets at the front of a text.
-use Rattle.std.proofs.Common.{◌≡◌, refl, sym, ap, ap₂, ◌∙◌, subst, ℕ, zero, suc, ◌+◌, ◌<◌, ◌≤◌, ◌⊎◌, ⊎_elim, Bool, true, false, List, [], ◌∷◌, ◌++◌, length, Option, Some, None, true≢false, arith, length-append, eqb-true, eq-eqb, leb-true, leb-false}
+use Rattle.std.proofs.Common.{◌≡◌, refl, sym, ap, ap₂, ◌∙◌, subst, ℕ, zero, suc, ◌<◌, ◌≤◌, ⊎_elim, Bool, true, false, List, [], ◌∷◌, ◌++◌, length, Option, Some, None, true≢false, arith, length-append, eqb-true, eq-eqb, leb-true, leb-false}
 use Rattle.std.specs.Prelude.{◌==◌, ◌&&◌, ◌||◌, not, leb, codes}
 use Rattle.script_text.specs.Bytes.{begins_with}
 use Rattle.syntax.specs.Signs.{Sign, sign_text, signs}
@@ -8,9 +8,9 @@ use Rattle.syntax.specs.Tokens as tok
 use Rattle.syntax.specs.Tokens.{Kind, Scan, Takes, Faults, operator_in}
 use Rattle.laws_tokens.specs.Texts.{Part, Whole, IsPart, IsSign, IsHash, one, two}
 use Rattle.laws_tokens.specs.Texts as of
-use Rattle.laws_tokens.specs.Longest.{IsLongest, HasNone}
-use Rattle.laws_tokens.proofs.Fronts.{First, White, Other, begins_other, sign_other, can_be, first, head_is, part_can, longest_by, both_true, either_true}
-use Rattle.laws_tokens.proofs.Runs.{answer, Stands, stands, strange}
+use Rattle.laws_tokens.specs.Longest.{HasNone}
+use Rattle.laws_tokens.proofs.Fronts.{White, Other, begins_other, sign_other, can_be, first, head_is, part_can, longest_by, both_true, either_true}
+use Rattle.laws_tokens.proofs.Runs.{Stands, stands, strange}
 
 -- ---- fronts
 
@@ -30,6 +30,10 @@ begins_split (d ∷ t) (c ∷ cs) e = go (c == d) refl (begins_split t cs) e
 same_byte : (c : ℕ) → (c == c) ≡ true
 same_byte c = eq-eqb c c refl
 
+begins_step : (t v : List ℕ) (b : Bool) → b ≡ true → begins_with t v ≡ true → elim b [ true ↦ begins_with t v | false ↦ false ] ≡ true
+begins_step t v true e h = h
+begins_step t v false e h = e
+
 -- of two fronts the longer begins with the other
 begins_front : (t v u w : List ℕ) → t ++ u ≡ v ++ w → length t ≤ length v → begins_with t v ≡ true
 begins_front [] v u w e l = refl
@@ -38,7 +42,7 @@ begins_front (c ∷ t) (d ∷ v) u w e l =
     let q : d ≡ c = cc in
     let h : t ++ u ≡ v ++ w = cc in
     let s : (d == c) ≡ true = ap (λ k. k == c) q ∙ same_byte c in
-    ap (λ b. elim b [ true ↦ begins_with t v | false ↦ false ]) s ∙ begins_front t v u w h (omega (arith, l))
+    begins_step t v (d == c) s (begins_front t v u w h (omega (arith, l)))
 
 begins_join : (t rest : List ℕ) → begins_with t (t ++ rest) ≡ true
 begins_join [] rest = refl

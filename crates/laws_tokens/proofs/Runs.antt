@@ -8,7 +8,7 @@ use Rattle.syntax.specs.Tokens.{Kind, Scan, Takes, Skips, Faults, number_scan, s
 use Rattle.laws_tokens.specs.Texts.{Part, Whole, IsPart, IsSpace, IsNumber, IsWide, AreDigits, IsHash, one, two, IsHashed, is_slot_number}
 use Rattle.laws_tokens.specs.Texts as of
 use Rattle.laws_tokens.specs.Longest.{IsLongest, HasNone}
-use Rattle.laws_tokens.proofs.Fronts.{First, White, Digit, Hash, first, can_be, white_first, digit_first, hash_first, longest_by, Split, split, within_run, Stops, taken, dropped, both_true}
+use Rattle.laws_tokens.proofs.Fronts.{White, Digit, Hash, can_be, white_first, digit_first, hash_first, longest_by, Split, split, within_run, taken, both_true}
 
 -- what is answered of a part of so many bytes
 abbrev pub answer : Part → ℕ → Scan

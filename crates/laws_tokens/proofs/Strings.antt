@@ -1,14 +1,13 @@
 -- Strings at the front of a text.
-use Rattle.std.proofs.Common.{◌≡◌, refl, sym, ap, ap₂, ◌∙◌, subst, ℕ, zero, suc, ◌+◌, ◌<◌, ◌≤◌, Bool, true, false, List, [], ◌∷◌, ◌++◌, length, true≢false, arith, append_assoc, append-nil, length-append, eqb-true}
-use Rattle.std.specs.Prelude.{◌==◌, ◌&&◌, ◌||◌, pred}
+use Rattle.std.proofs.Common.{◌≡◌, refl, sym, ap, ap₂, ◌∙◌, subst, ℕ, suc, ◌+◌, ◌≤◌, Bool, true, false, List, [], ◌∷◌, ◌++◌, length, true≢false, arith, append_assoc, append-nil, length-append, eqb-true}
+use Rattle.std.specs.Prelude.{◌==◌}
 use Rattle.script_text.specs.Bytes.{begins_with}
 use Rattle.syntax.specs.Tokens as tok
 use Rattle.syntax.specs.Tokens.{Kind, Scan, Takes, Faults, string_end}
 use Rattle.laws_tokens.specs.Texts.{Part, Whole, IsPart, is_escape, Inside, nothing, plain, escape, IsString, IsOpenString, IsBadEscape}
 use Rattle.laws_tokens.specs.Texts as of
-use Rattle.laws_tokens.specs.Longest.{IsLongest}
 use Rattle.laws_tokens.proofs.Fronts.{Quote, can_be, quote_first, longest_by}
-use Rattle.laws_tokens.proofs.Runs.{answer, Stands, stands}
+use Rattle.laws_tokens.proofs.Runs.{Stands, stands}
 
 -- what ends the inside of a string: a quote, or a backslash with no escape behind it
 abbrev pub NoEscape : List ℕ → Type 0
@@ -97,7 +96,7 @@ string_ends n (c ∷ d ∷ ds) =
 
 -- ---- what stands there
 
-string_bound : (c : ℕ) (cs y z : List ℕ) → Inside y → Ends z → cs ≡ y ++ z → (q : Part) (t u : List ℕ) → c ∷ cs ≡ t ++ u → can_be Quote q ≡ true → IsPart q t → length t ≤ suc (suc (length y))
+pub string_bound : (c : ℕ) (cs y z : List ℕ) → Inside y → Ends z → cs ≡ y ++ z → (q : Part) (t u : List ℕ) → c ∷ cs ≡ t ++ u → can_be Quote q ≡ true → IsPart q t → length t ≤ suc (suc (length y))
 string_bound c cs y z j h w (Whole Kind.Str) t u v e i =
     let k : cs ≡ i.inside ++ (34 ∷ u) = (let g : c ∷ cs ≡ 34 ∷ ((i.inside ++ (34 ∷ [])) ++ u) = v ∙ ap (λ (xs : List ℕ). xs ++ u) i.is in (let d : cs ≡ (i.inside ++ (34 ∷ [])) ++ u = cc in d ∙ append_assoc i.inside (34 ∷ []) u)) in
     let r = inside_front i.inside y z (34 ∷ u) i.well j h (sym k ∙ w) in

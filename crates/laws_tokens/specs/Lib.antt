@@ -1,3 +1,4 @@
 pub mod Texts
 pub mod Longest
+pub mod Spelled
 pub mod Laws

@@ -1,10 +1,10 @@
 -- A text is cut at each place into the longest text that is a token, is passed over or is faulty.
---     IsFront              the text is the front of another
---     IsLongest            a part at the front, and no longer front is one
+--     IsLongest, HasNone   a part at the front, and no longer front is one; no front is one
 --     passes, fault_of     what is passed over; the fault of a part at a place
+--     stopped              no tokens, and a fault
 --     IsCut                the tokens of the text from a place on, and the first fault
 use Rattle.std.specs.Prelude.{◌≡◌, ℕ, pred, ◌+◌, ◌≤◌, Bool, true, false, List, [], ◌∷◌, ◌++◌, length, Option, Some, None}
-use Rattle.syntax.specs.Tokens.{Kind, LexFault, BadByte, WideNumber, OpenString, OpenComment, Token, Lexed, and_token}
+use Rattle.syntax.specs.Tokens.{Kind, LexFault, BadByte, WideNumber, OpenString, OpenComment, Lexed, and_token}
 use Rattle.laws_tokens.specs.Texts.{Part, IsPart}
 use Rattle.laws_tokens.specs.Texts as of
 

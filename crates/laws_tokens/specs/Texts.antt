@@ -8,7 +8,7 @@
 --     Nested                               comments are left and begun within comments
 --     IsComment, IsOpenComment             a comment; one that is open
 --     Part, IsPart                         what a text is cut into
-use Rattle.std.specs.Prelude.{◌≡◌, ℕ, zero, suc, ◌<◌, ◌≤◌, ◌^◌, ◌==◌, leb, Bool, true, false, not, ◌&&◌, ◌||◌, List, [], ◌∷◌, ◌++◌, length, codes}
+use Rattle.std.specs.Prelude.{◌≡◌, ℕ, suc, ◌<◌, ◌≤◌, ◌^◌, ◌==◌, leb, Bool, true, false, not, ◌&&◌, ◌||◌, List, [], ◌∷◌, ◌++◌, length, codes}
 use Rattle.script_text.specs.Bytes.{all, begins_with, is_digit, is_name, is_white, number_after}
 use Rattle.syntax.specs.Signs.{Sign, sign_text}
 use Rattle.syntax.specs.Tokens.{Kind}

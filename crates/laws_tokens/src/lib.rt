@@ -1,7 +1,7 @@
 //! Laws of the tokens of a text. Each function here has no code: its contract is a law.
 #![tactic(auto)]
 
-ghost use Rattle.laws_tokens.specs.Laws.{TokensAreLongest, TokensAreThese};
+ghost use Rattle.laws_tokens.specs.Laws.{CellsAreTexts, LexemesAreTokens, OffsetsAreOfTexts, TokensAreLongest, TokensAreSpelled, TokensAreThese};
 
 /// The tokens of a text are, at each place, the longest text that is a token, up to the first fault.
 pub fn tokens_are_longest()
@@ -11,4 +11,24 @@ pub fn tokens_are_longest()
 /// No other tokens of the text are.
 pub fn tokens_are_these_alone()
     ensures law { TokensAreThese }
+{}
+
+/// What a token of a cell stands for is the text of a token of its kind.
+pub fn lexemes_are_tokens()
+    ensures law { LexemesAreTokens }
+{}
+
+/// Any tokens, put together with white space between them, are the tokens of the text that this gives.
+pub fn tokens_are_spelled()
+    ensures law { TokensAreSpelled }
+{}
+
+/// The tokens up to one of a cell begin what is read exactly where some text that is read begins with them.
+pub fn what_begins_a_cell_begins_a_text()
+    ensures law { CellsAreTexts }
+{}
+
+/// The syntax offset is where the first token begins such that no text that is read begins with the tokens up to it.
+pub fn syntax_offsets_are_of_texts()
+    ensures law { OffsetsAreOfTexts }
 {}

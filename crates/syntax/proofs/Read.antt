@@ -17,7 +17,7 @@ use Rattle.syntax.specs.Reads.{AreRead, LexemesRead, Reads, BeginsCell, IsFirstB
 use Rattle.syntax.specs.Laws.{OneOffset, OneReading, ReadOrOffset}
 use Rattle.syntax.proofs.Reader.{State, Filler, fill, fills, run, step, finished, start_state, SequenceFits, complete, read_once, accepted, viable, not_viable, not_read, run_last}
 
-lexeme_of : Filler → Lexeme
+abbrev pub lexeme_of : Filler → Lexeme
 lexeme_of Filler.One = record { kind = Kind.Number; text = codes "1"; after_line = false }
 lexeme_of Filler.Round = record { kind = Kind.Operator; text = codes ")"; after_line = false }
 lexeme_of Filler.Curly = record { kind = Kind.Operator; text = codes "}"; after_line = false }
@@ -62,7 +62,6 @@ module _ (names : Names) (find : List ℕ → ℕ) where
   ends_as s = finished Phrase Tree (List Tree) A s.1 s.0
 
   filled : (f : Filler) → terminal names find (lexeme_of f) ≡ fill f
-  unfolding lexeme_of
   filled Filler.One = refl
   filled Filler.Round = refl
   filled Filler.Curly = refl
@@ -84,12 +83,24 @@ module _ (names : Names) (find : List ℕ → ℕ) where
   whole_read [] x w = absurd (none_whole x w)
   whole_read (l ∷ ls) x w = (x, w, refl)
 
+  -- a few lexemes with which these are a cell
+  pub record Filled (ls : List Lexeme) : Type 0 where
+    pub tail : List Filler
+    pub expr : Tree
+    pub read : LexemesRead names find (ls ++ map lexeme_of tail) expr
+
   -- where the reader has not stopped, some cell goes on
-  begins_here : (ls : List Lexeme) (s : At) → goes ls ≡ Some s → BeginsCell names find ls
-  begins_here ls s e =
+  filled_here : (ls : List Lexeme) (s : At) → goes ls ≡ Some s → Filled ls
+  filled_here ls s e =
       let v = viable Phrase Tree (List Tree) A (fits names) (ts ls) s e in
-      let rest : List Lexeme = map lexeme_of v.tail in
-      (rest, v.value.expr, whole_read (ls ++ rest) v.value (subst (λ (us : List Terminal). IsWhole us v.value) (sym (ends_filled ls v.tail)) v.whole))
+      record {
+        tail = v.tail;
+        expr = v.value.expr;
+        read = whole_read (ls ++ map lexeme_of v.tail) v.value (subst (λ (us : List Terminal). IsWhole us v.value) (sym (ends_filled ls v.tail)) v.whole);
+      }
+
+  begins_here : (ls : List Lexeme) (s : At) → goes ls ≡ Some s → BeginsCell names find ls
+  begins_here ls s e = let f = filled_here ls s e in (map lexeme_of f.tail, f.expr, f.read)
 
   as_read : (ls : List Lexeme) (l : Lexeme) (rest : List Lexeme) (x : Tree) → LexemesRead names find ((ls ++ l ∷ []) ++ rest) x → AreRead names find ((ls ++ l ∷ []) ++ rest) x
   as_read [] l rest x r = r
@@ -156,6 +167,31 @@ module _ (names : Names) (find : List ℕ → ℕ) where
   begun_goes : goes [] ≡ Some begun
   unfolding run
   begun_goes = refl
+
+  -- where it has stopped, it stays so
+  stays : (us vs : List Terminal) (s : At) → run Phrase Tree (List Tree) A us s ≡ None → run Phrase Tree (List Tree) A (us ++ vs) s ≡ None
+  unfolding run
+  stays [] vs s e = cc
+  stays (u ∷ us) vs s e = go (step Phrase Tree (List Tree) A u s) (λ s' h. stays us vs s' h) e
+    where
+      go : (o : Option At) → ((s' : At) → run Phrase Tree (List Tree) A us s' ≡ None → run Phrase Tree (List Tree) A (us ++ vs) s' ≡ None) →
+          option_and_then (run Phrase Tree (List Tree) A us) o ≡ None → option_and_then (run Phrase Tree (List Tree) A (us ++ vs)) o ≡ None
+      go None next h = refl
+      go (Some s') next h = next s' h
+
+  -- of a few fillers it takes no more than that some lexemes go on
+  pub filled_of : (ls : List Lexeme) → BeginsCell names find ls → Filled ls
+  filled_of [] b = filled_here [] begun begun_goes
+  filled_of (l ∷ ls) (rest, e, (x, w, q)) = go (goes (l ∷ ls)) refl
+    where
+      go : (o : Option At) → goes (l ∷ ls) ≡ o → Filled (l ∷ ls)
+      go (Some s) g = filled_here (l ∷ ls) s g
+      go None g =
+          let c = complete Phrase Tree (List Tree) A (ts ((l ∷ ls) ++ rest)) x w in
+          let stuck : run Phrase Tree (List Tree) A (ts ((l ∷ ls) ++ rest)) begun ≡ None =
+          ap (λ us. run Phrase Tree (List Tree) A us begun) (map-append (terminal names find) (l ∷ ls) rest) ∙ stays (ts (l ∷ ls)) (ts rest) begun g in
+          let runs = c.runs in
+          cc
 
   offset_at : (cell : List ℕ) (k : ℕ) → IsFirstBad names find (lexemes cell) k → ((e : Tree) → ¬ Reads names find cell e) → (place : ℕ) × IsOffset names find cell place
   offset_at cell k b u =
