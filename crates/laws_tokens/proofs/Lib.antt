@@ -7,4 +7,6 @@ mod Operators
 mod Cuts
 mod Alone
 mod Spaced
+mod Solid
+mod OneCell
 mod Spelling

@@ -15,7 +15,7 @@ use Rattle.laws_tokens.proofs.Operators.{no_part}
 
 -- ---- bytes that are no white space
 
-abbrev is_black : ℕ → Bool
+abbrev pub is_black : ℕ → Bool
 is_black c = not (is_white c)
 
 black_by : (c : ℕ) (f : First) → first c ≡ f → (f ≡ White → ⊥) → is_black c ≡ true
@@ -32,7 +32,7 @@ is_letter_kind _ = false
 no_white : (f : First) → is_letter_kind f ≡ false → f ≡ White → ⊥
 no_white f n e = true≢false (ap is_letter_kind (sym e) ∙ n)
 
-digit_black : (c : ℕ) → is_digit c ≡ true → is_black c ≡ true
+pub digit_black : (c : ℕ) → is_digit c ≡ true → is_black c ≡ true
 digit_black c e = black_by c Digit (digit_first c e) (no_white Digit refl)
 
 name_black : (c : ℕ) → in_name c ≡ true → is_black c ≡ true
@@ -43,7 +43,7 @@ name_black c e =
 mark_black : (c : ℕ) → (c == 95) ≡ true → is_black c ≡ true
 mark_black c e = ap is_black (eqb-true c 95 e)
 
-all_weaker : (p q : ℕ → Bool) → ((c : ℕ) → p c ≡ true → q c ≡ true) → (t : List ℕ) → all p t ≡ true → all q t ≡ true
+pub all_weaker : (p q : ℕ → Bool) → ((c : ℕ) → p c ≡ true → q c ≡ true) → (t : List ℕ) → all p t ≡ true → all q t ≡ true
 all_weaker p q w [] a = refl
 all_weaker p q w (c ∷ t) a =
     let both = both_true (p c) (all p t) a in
@@ -53,7 +53,7 @@ all_both : (p : ℕ → Bool) (t u : List ℕ) → all p t ≡ true → all p u 
 all_both p [] u a b = b
 all_both p (c ∷ t) u a b = let both = both_true (p c) (all p t) a in ap₂ (λ x y. x && y) both.0 (all_both p t u both.1 b)
 
-sign_black : (s : Sign) → all is_black (sign_text s) ≡ true
+pub sign_black : (s : Sign) → all is_black (sign_text s) ≡ true
 sign_black Sign.Query = refl
 sign_black Sign.At = refl
 sign_black Sign.SlashAt = refl
@@ -103,7 +103,7 @@ sign_black Sign.OpenBrace = refl
 sign_black Sign.CloseBrace = refl
 sign_black Sign.Comma = refl
 
-abbrev AllBlack : List ℕ → Type 0
+abbrev pub AllBlack : List ℕ → Type 0
 AllBlack t = all is_black t ≡ true
 
 optional_black : (t : List ℕ) → IsOptional t → AllBlack t
@@ -114,17 +114,17 @@ hash_black : (t : List ℕ) → IsHash t → AllBlack t
 hash_black t one = refl
 hash_black t two = refl
 
-name_all_black : (t : List ℕ) → is_name t ≡ true → AllBlack t
+pub name_all_black : (t : List ℕ) → is_name t ≡ true → AllBlack t
 name_all_black [] i = refl
 name_all_black (c ∷ t) i = all_weaker in_name is_black name_black (c ∷ t) (name_only c t i)
 
-blank_black : (t : List ℕ) → IsMarked t → AllBlack t
+pub blank_black : (t : List ℕ) → IsMarked t → AllBlack t
 blank_black t i =
     ap (all is_black) i.is
     ∙ all_both is_black i.before (i.marks ++ i.behind) (optional_black i.before i.name)
     (all_both is_black i.marks i.behind (all_weaker (λ c. c == 95) is_black mark_black i.marks i.only) (optional_black i.behind i.head))
 
-hashed_black : (good : Bool) (t : List ℕ) → IsHashed good t → AllBlack t
+pub hashed_black : (good : Bool) (t : List ℕ) → IsHashed good t → AllBlack t
 hashed_black good t i = ap (all is_black) i.is ∙ all_both is_black i.marks i.number (hash_black i.marks i.hash) (all_weaker is_digit is_black digit_black i.number i.digits)
 
 -- ---- what is longer has the white space in it
