@@ -9,7 +9,7 @@ use Rattle.semantics.specs.Texts.{row_text, row_with}
 use Rattle.case_table.specs.Entries.{attrs_of}
 use Rattle.builtin_names.specs.Attributes.{attributes_in}
 
-pub row_here : (row : Builtin) → (get_or rows (row_number row) Builtin.Plus ≡ row) × (ltb (row_number row) 166 ≡ true)
+pub row_here : (row : Builtin) → (get_or rows (row_number row) Builtin.Plus ≡ row) × (ltb (row_number row) 168 ≡ true)
 row_here Builtin.Plus = (refl, refl)
 row_here Builtin.Times = (refl, refl)
 row_here Builtin.Power = (refl, refl)
@@ -50,6 +50,8 @@ row_here Builtin.While = (refl, refl)
 row_here Builtin.Do = (refl, refl)
 row_here Builtin.Table = (refl, refl)
 row_here Builtin.Sum = (refl, refl)
+row_here Builtin.Throw = (refl, refl)
+row_here Builtin.Catch = (refl, refl)
 row_here Builtin.Hold = (refl, refl)
 row_here Builtin.HoldComplete = (refl, refl)
 row_here Builtin.HoldPattern = (refl, refl)
@@ -218,6 +220,8 @@ row_named Builtin.While = refl
 row_named Builtin.Do = refl
 row_named Builtin.Table = refl
 row_named Builtin.Sum = refl
+row_named Builtin.Throw = refl
+row_named Builtin.Catch = refl
 row_named Builtin.Hold = refl
 row_named Builtin.HoldComplete = refl
 row_named Builtin.HoldPattern = refl
@@ -386,6 +390,8 @@ attributes_here Builtin.While = refl
 attributes_here Builtin.Do = refl
 attributes_here Builtin.Table = refl
 attributes_here Builtin.Sum = refl
+attributes_here Builtin.Throw = refl
+attributes_here Builtin.Catch = refl
 attributes_here Builtin.Hold = refl
 attributes_here Builtin.HoldComplete = refl
 attributes_here Builtin.HoldPattern = refl

@@ -20,7 +20,7 @@ pub(crate) fn place_of(row: Builtin) -> usize
 /// The row at a place of the table.
 #[tactic(auto)]
 pub(crate) fn row_of_place(place: usize) -> Builtin
-    requires { place < 166 }
+    requires { place < 168 }
     ensures { result ≡ get_or rows place Builtin.Plus }
 {
     match builtins().rows[place].code {

@@ -8,7 +8,7 @@ use Rattle.builtin_names.proofs.table.row_names.Goals as goal
 pub loop-place-preserved : goal.loop-place-preserved
 loop-place-preserved c =
     let place = c.loop-place.place in
-    let within : place < 166 = omega (arith, c.loop-place-test.true) in
+    let within : place < 168 = omega (arith, c.loop-place-test.true) in
     let names = map row_text rows in
     c.in_ok-push.ensures.ok
     ∙ ap (λ ts. ts ++ (c.in_ok-of.field-0 ∷ [])) c.loop-place.invariant
