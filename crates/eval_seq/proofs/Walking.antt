@@ -6,7 +6,7 @@ use Rattle.expr_tree.specs.declared.limits.Stop.{Stop}
 use Rattle.semantics.specs.Definitions.{Definitions}
 use Rattle.semantics.specs.Program.{Prog, Ask, Local}
 use Rattle.semantics.specs.Pass.{pass}
-use Rattle.semantics.specs.Play.{Setting, State, End, Value, Stopped, Play, Over, ending, on_value, after, without_locals, leaving_locals, run, passes, eval_at, judged}
+use Rattle.semantics.specs.Play.{Setting, State, End, Value, Stopped, Play, Over, ending, on_value, after, without_locals, leaving_locals, run, passes, eval_at, passed}
 use Rattle.evaluation_steps.specs.declared.Halt.{Halt}
 use Rattle.evaluation_steps.specs.Leads.{Step, Leads, here}
 use Rattle.evaluation_steps.specs.Words.{Evaluated, Settled, Reached, Ran, Led}
@@ -46,8 +46,8 @@ module _ {S : Type 0} {step : Step S} {set : Setting} where
 
 met_settles : {S : Type 0} {step : Step S} {set : Setting} (n m : ℕ) (e : Tree) {b : Missing} {s z : S} (st : State) → Met step set s (run set (eval_at set n) (pass set.names e) st) b z →
     Met step set s (passes set (eval_at set n) m e st) b z
-met_settles {set = set} n zero e st w = met_part (on_value (judged set zero (λ v t. Over (Stopped Stop.Iteration) t) e)) w
-met_settles {set = set} n (suc m) e st w = met_part (on_value (judged set (suc m) (λ v t. passes set (eval_at set n) m v t) e)) w
+met_settles {set = set} n zero e st w = met_part (passed set zero (λ v t. Over (Stopped Stop.Iteration) t) e) w
+met_settles {set = set} n (suc m) e st w = met_part (passed set (suc m) (λ v t. passes set (eval_at set n) m v t) e) w
 
 module _ {S : Type 0} {step : Step S} {set : Setting} {n : ℕ} where
   -- ---- results that are known

@@ -3,7 +3,7 @@
 --     IsSteady              what is left comes to as many, whatever the answer is
 use Rattle.std.specs.Prelude.{◌≡◌, ℕ, suc, pos, [], Option, None}
 use Rattle.expr_tree.specs.Tree.{Tree, integer}
-use Rattle.semantics.specs.Program.{Prog, Done, Stops, Quits, Ask, Within, Section, Open, Look, Put, Fresh, Turn, Check, Outer, Moded, Shown, Seen}
+use Rattle.semantics.specs.Program.{Prog, Done, Stops, Quits, Throws, Ask, Catches, Within, Section, Open, Look, Put, Fresh, Turn, Check, Outer, Moded, Shown, Seen}
 
 -- a symbol without a definition, which is not shared
 abbrev pub nothing_seen : Seen
@@ -20,6 +20,8 @@ asks (Check e p) = asks p
 asks (Done e) = 0
 asks (Stops c) = 0
 asks Quits = 0
+asks (Throws e) = 0
+asks (Catches e k) = 0
 asks (Section ss e k) = 0
 asks (Open k) = 0
 asks (Outer c k) = 0

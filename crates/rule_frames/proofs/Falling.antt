@@ -15,7 +15,7 @@ use Rattle.semantics.specs.Match.{Guard, Cond, Found, Matching, matches, heads, 
 use Rattle.semantics.specs.Rule.{Rule, condition_of, result_of}
 use Rattle.semantics.specs.InPlace.{put_in_place}
 use Rattle.semantics.specs.Attempt.{told, try_guards, try_binding, try_bindings, try_rule, try_rules}
-use Rattle.semantics.specs.Program.{Prog, Done, Stops, Quits, Ask, Within, Section, Open, Look, Put, Fresh, Turn, Check, Outer, Moded, Shown, Seen, look_all}
+use Rattle.semantics.specs.Program.{Prog, Done, Stops, Quits, Throws, Ask, Catches, Within, Section, Open, Look, Put, Fresh, Turn, Check, Outer, Moded, Shown, Seen, look_all}
 use Rattle.semantics.specs.Play.{seen}
 use Rattle.evaluation_steps.specs.Moves.{turning}
 use Rattle.rule_frames.specs.Reading.{Shows, same, fitting, looked, matching_in}
@@ -30,6 +30,8 @@ Plain names (Check e p) = Plain names p
 Plain names (Done e) = Unit {0}
 Plain names (Stops c) = Unit {0}
 Plain names Quits = Unit {0}
+Plain names (Throws e) = Unit {0}
+Plain names (Catches e k) = Unit {0}
 Plain names (Within ls e k) = Unit {0}
 Plain names (Section ss e k) = Unit {0}
 Plain names (Open k) = Unit {0}

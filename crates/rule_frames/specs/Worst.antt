@@ -6,7 +6,7 @@ use Rattle.expr_tree.specs.Tree.{Tree, integer}
 use Rattle.semantics.specs.declared.builtin.Builtin.{Builtin}
 use Rattle.semantics.specs.Names.{Names, name}
 use Rattle.semantics.specs.Definitions.{Attributes}
-use Rattle.semantics.specs.Program.{Prog, Done, Stops, Quits, Ask, Within, Section, Open, Look, Put, Fresh, Turn, Check, Outer, Moded, Shown, Seen}
+use Rattle.semantics.specs.Program.{Prog, Done, Stops, Quits, Throws, Ask, Catches, Within, Section, Open, Look, Put, Fresh, Turn, Check, Outer, Moded, Shown, Seen}
 
 abbrev pub seen_with : Attributes → Seen
 seen_with a = record { definition = record { attributes = a; own = None; downs = []; ups = [] }; shared = None }
@@ -25,6 +25,8 @@ worst names (Check e p) = worst names p
 worst names (Done e) = 0
 worst names (Stops c) = 0
 worst names Quits = 0
+worst names (Throws e) = 0
+worst names (Catches e k) = 0
 worst names (Within ls e k) = 0
 worst names (Section ss e k) = 0
 worst names (Open k) = 0

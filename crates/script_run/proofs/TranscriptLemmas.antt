@@ -26,7 +26,7 @@ use Rattle.syntax.specs.Reads.{Reads, LexemesRead, IsOffset}
 use Rattle.read_form.specs.declared.ReadNo.{ReadNo}
 use Rattle.read_form.specs.Answers.{IsNo}
 use Rattle.sequential_transcript.specs.Unbuilt.{has_unbuilt}
-use Rattle.sequential_transcript.specs.Transcript.{Ran, alone, ran, leaves, value_in, left_by, line_of, PrintsCell, read, unread, Prints, none, next, texts_of}
+use Rattle.sequential_transcript.specs.Transcript.{Ran, limits_of, alone, ran, leaves, value_in, left_by, line_of, PrintsCell, read, unread, Prints, none, next, texts_of}
 use Rattle.script_run.specs.Cells.{has_some}
 use Rattle.script_run.specs.Promise.{IsTranscript, Begins}
 use Rattle.script_run.proofs.LineLemmas.{names_are}
@@ -99,7 +99,7 @@ next_cell table steps script spans items at s d later n lines cell line same ins
 
 module _ (spelling : Spelling) (names : Names) (find : List ℕ → ℕ) (steps : ℕ) where
   abbrev left : Definitions → Tree → Ran
-  left d e = left_by names (eval (alone spelling names steps) d e [])
+  left d e = left_by names (limits_of steps) (eval (alone spelling names steps) d e [])
 
   abbrev by_test : Bool → Definitions → Tree → Ran
   by_test b d e = elim b [ true ↦ leaves None d | false ↦ left d e ]
@@ -120,7 +120,7 @@ module _ (spelling : Spelling) (names : Names) (find : List ℕ → ℕ) (steps 
   ran_unbuilt d ls e is shallow bad = ran_shallow d ls e is shallow ∙ ap (λ b. by_test b d e) bad
 
   pub ran_evaluated : (d : Definitions) (ls : List Lexeme) (e : Tree) → has_some ls ≡ true → depth e ≤ 512 → has_unbuilt names e ≡ false
-      → ran spelling names find steps d ls e ≡ leaves (value_in names (eval (alone spelling names steps) d e []).outcome) (eval (alone spelling names steps) d e []).definitions
+      → ran spelling names find steps d ls e ≡ leaves (value_in names (limits_of steps) (eval (alone spelling names steps) d e []).outcome) (eval (alone spelling names steps) d e []).definitions
   ran_evaluated d ls e is shallow good = ran_shallow d ls e is shallow ∙ ap (λ b. by_test b d e) good
 
   is_deep : (e : Tree) → 512 < depth e → leb (depth e) 512 ≡ false

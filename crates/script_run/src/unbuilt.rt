@@ -16,6 +16,8 @@ fn is_unbuilt(row: Builtin) -> bool
     ensures { result ≡ is_unbuilt row }
 {
     match row {
+        Builtin::Throw => true,
+        Builtin::Catch => true,
         Builtin::ParallelSubmit => true,
         Builtin::ParallelTable => true,
         Builtin::ParallelDo => true,

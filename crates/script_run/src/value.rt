@@ -68,7 +68,7 @@ fn evaluated(
     requires names { HasBuiltins names.now }
     requires kept { IsKept (length names.now.texts) e.now }
     requires kept_before { AreKeptIn (length names.now.texts) defs.old }
-    ensures value { IfOk result (λ v. Some v ≡ value_in (names_in names.now) (sem.eval (alone (by_texts names.now.texts) (names_in names.now) steps) defs.old e.now []).outcome) }
+    ensures value { IfOk result (λ v. Some v ≡ value_in (names_in names.now) (limits_of steps) (sem.eval (alone (by_texts names.now.texts) (names_in names.now) steps) defs.old e.now []).outcome) }
     ensures definitions { IfOk result (λ v. defs.new ≡ (sem.eval (alone (by_texts names.now.texts) (names_in names.now) steps) defs.old e.now []).definitions) }
     ensures kept { IfOk result (λ v. IsKept (length names.now.texts) v) }
     ensures kept_after { IfOk result (λ v. AreKeptIn (length names.now.texts) defs.new) }

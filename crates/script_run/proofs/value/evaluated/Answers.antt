@@ -3,7 +3,7 @@ use Rattle.script_text.specs.Laws.{IsKept}
 use Rattle.semantics.specs.declared.builtin.Builtin.{Builtin}
 use Rattle.builtin_names.specs.Named.{names_in}
 use Rattle.eval_seq.specs.Told.{ended_in}
-use Rattle.sequential_transcript.specs.Transcript.{value_in}
+use Rattle.sequential_transcript.specs.Transcript.{limits_of, value_in}
 use Rattle.script_run.proofs.EvalLemmas.{ended_by_value, ended_by_stop}
 use Rattle.script_run.proofs.LineLemmas.{name_kept}
 use Rattle.script_run.proofs.value.evaluated.Goals as goal
@@ -13,7 +13,7 @@ returns-in-Value-clause-value c =
     let told = c.eval-ended.ensures.explained in
     let end = ended_by_value c.args.names.now c.requires.names c.args.steps c.limits_of.result c.limits_of.ensures c.args.defs.now c.args.e.now told.0 c.eval-ended.result.outcome c.in-Value.value
     (ended_in c.eval-ended.new.defs c.eval-ended.result) c.requires.kept_before c.requires.kept c.in-Value.is told.2 c.if-ended.false in
-    rw c.in-Value.is (sym (ap (value_in (names_in c.args.names.now)) end.outcome))
+    rw c.in-Value.is (sym (ap (value_in (names_in c.args.names.now) (limits_of c.args.steps)) end.outcome))
 
 pub returns-in-Value-clause-definitions : goal.returns-in-Value-clause-definitions
 returns-in-Value-clause-definitions c =
@@ -41,7 +41,7 @@ returns-in-Stopped-clause-value c =
     let told = c.eval-ended.ensures.explained in
     let end = ended_by_stop c.args.names.now c.requires.names c.args.steps c.limits_of.result c.limits_of.ensures c.args.defs.now c.args.e.now told.0 c.eval-ended.result.outcome c.in-Stopped.field-0
     (ended_in c.eval-ended.new.defs c.eval-ended.result) c.requires.kept_before c.requires.kept c.in-Stopped.is told.2 c.if-ended.false in
-    ap Some c.name.ensures ∙ sym (ap (value_in (names_in c.args.names.now)) end.outcome)
+    ap Some c.name.ensures ∙ sym (ap (value_in (names_in c.args.names.now) (limits_of c.args.steps)) end.outcome)
 
 pub returns-in-Stopped-clause-definitions : goal.returns-in-Stopped-clause-definitions
 returns-in-Stopped-clause-definitions c =
