@@ -8,23 +8,23 @@ use Rattle.journal.specs.Core.{Setup, Core, Kernel, new_kernel, Queued, Status, 
 use Rattle.laws_journal.proofs.Tables.{both, none≢some, some_is, split, apart, each_nth, change_other, change_same}
 
 -- a pinned item runs on its kernel alone
-abbrev pin_ok : Item → Status → Bool
+abbrev pub pin_ok : Item → Status → Bool
 pin_ok (Item.Pinned i e) (Running j) = i == j
 pin_ok _ _ = true
 
-abbrev pin_in : Option Queued → Bool
+abbrev pub pin_in : Option Queued → Bool
 pin_in None = true
 pin_in (Some q) = pin_ok q.item q.status
 
-abbrev status_in : Option Queued → Option Status
+abbrev pub status_in : Option Queued → Option Status
 status_in o = elim o [ None ↦ None | Some q ↦ Some q.status ]
 
-record Agrees (c : Core) : Type 0 where
-  runs : (k id : ℕ) → attempt_of c k ≡ Some id → runs_or_dropped k (status_of c id) ≡ true
-  pins : (m : ℕ) → pin_in (nth c.items m) ≡ true
+pub record Agrees (c : Core) : Type 0 where
+  pub runs : (k id : ℕ) → attempt_of c k ≡ Some id → runs_or_dropped k (status_of c id) ≡ true
+  pub pins : (m : ℕ) → pin_in (nth c.items m) ≡ true
 
 -- the entries that change attempts
-abbrev attempts : Event → Bool
+abbrev pub attempts : Event → Bool
 attempts (Event.Take i) = true
 attempts (Event.Deliver i v) = true
 attempts (Event.Lose cause) = true
@@ -138,7 +138,7 @@ is_submit _ = false
 changed : (set : Setup) (c : Core) (j : ℕ) (e : Event) (m : ℕ) (q : Queued) → nth c.items m ≡ Some q → nth (each_from 1 (queued_after set c.wait j e) c.items) m ≡ Some (queued_after set c.wait j e (suc m) q)
 changed set c j e m q at = each_nth 1 m (queued_after set c.wait j e) c.items ∙ ap (λ o. elim o [ None ↦ None | Some x ↦ Some (queued_after set c.wait j e (1 + m) x) ]) at ∙ ap (λ n. Some (queued_after set c.wait j e n q)) (omega arith)
 
-after_entry : (set : Setup) (c : Core) (h : Handed) (j : ℕ) (e : Event) (m : ℕ) (q : Queued) → nth c.items m ≡ Some q → status_in (nth (items_after set c h j e) m) ≡ Some (status_after set c.wait j e (suc m) q.item q.status)
+pub after_entry : (set : Setup) (c : Core) (h : Handed) (j : ℕ) (e : Event) (m : ℕ) (q : Queued) → nth c.items m ≡ Some q → status_in (nth (items_after set c h j e) m) ≡ Some (status_after set c.wait j e (suc m) q.item q.status)
 after_entry set c h j (Event.Submit id) m q at = ap status_in (submitted h c.items m q at)
 after_entry set c h j (Event.Yield w) m q at = ap status_in (changed set c j (Event.Yield w) m q at)
 after_entry set c h j Event.Resume m q at = ap status_in (changed set c j Event.Resume m q at)
@@ -278,7 +278,7 @@ abbrev attempt_in : Option Kernel → Option ℕ
 attempt_in o = elim o [ None ↦ None | Some x ↦ x.attempt ]
 
 -- the attempts of the kernel that posts
-own_attempt : (e : Event) (x : Kernel) → attempts e ≡ false → (kernel_after e x).attempt ≡ x.attempt
+pub own_attempt : (e : Event) (x : Kernel) → attempts e ≡ false → (kernel_after e x).attempt ≡ x.attempt
 own_attempt (Event.Take i) x h = absurd (true≢false h)
 own_attempt (Event.Deliver i v) x h = absurd (true≢false h)
 own_attempt (Event.Lose cause) x h = absurd (true≢false h)
@@ -288,12 +288,12 @@ not_both : (e : Event) → attempts e ≡ false → attempts e ≡ true → ⊥
 not_both e f t = true≢false (sym t ∙ f)
 
 -- past the end nothing is there afterwards either
-past : (n : ℕ) (f : Kernel → Kernel) (ks : List Kernel) → nth ks n ≡ None → nth (change_at n f ks) n ≡ None
+pub past : (n : ℕ) (f : Kernel → Kernel) (ks : List Kernel) → nth ks n ≡ None → nth (change_at n f ks) n ≡ None
 past n f [] z = refl
 past zero f (x ∷ xs) z = absurd (none≢some (sym z))
 past (suc n) f (x ∷ xs) z = past n f xs z
 
-agrees_after : (set : Setup) (c : Core) (p : Posted) → Agrees c → allowed set c p ≡ true → Agrees (effect set c p)
+pub agrees_after : (set : Setup) (c : Core) (p : Posted) → Agrees c → allowed set c p ≡ true → Agrees (effect set c p)
 agrees_after set c p agrees ok =
     record {
       runs = λ k id a. runs_now k id a;
@@ -347,5 +347,8 @@ start_attempt : (set : Setup) (k : ℕ) → attempt_of (start set) k ≡ None
 start_attempt set zero = refl
 start_attempt set (suc k) = no_attempt set.kernels k
 
+pub agrees_at_start : (set : Setup) → Agrees (start set)
+agrees_at_start set = record { runs = λ k id a. absurd (none≢some (sym (start_attempt set k) ∙ a)); pins = λ m. refl }
+
 pub attempts_agree : (set : Setup) (ps : List Posted) (c : Core) → replay_from set (start set) ps ≡ Some c → (k id : ℕ) → attempt_of c k ≡ Some id → runs_or_dropped k (status_of c id) ≡ true
-attempts_agree set ps c r = (agrees_from set (start set) c ps (record { runs = λ k id a. absurd (none≢some (sym (start_attempt set k) ∙ a)); pins = λ m. refl }) r).runs
+attempts_agree set ps c r = (agrees_from set (start set) c ps (agrees_at_start set) r).runs

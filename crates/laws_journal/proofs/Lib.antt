@@ -22,3 +22,4 @@ mod Composed
 mod Emptied
 mod Waiting
 mod Masters
+mod Doers

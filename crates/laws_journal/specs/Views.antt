@@ -6,12 +6,13 @@
 --     OthersPass                    entries of others change nothing of a kernel but the items that it has seen
 --     OwnCounted, LivesUnlessLost   a kernel's count is that of its entries; it lives unless its view is lost
 --     StretchByStretch              a journal that grows by entries: the core and a kernel's view go on from where they were
+--     DoersAgree                    an item that runs is run by its kernel; a kernel that does not live has no attempt
 --     WaitLocksAgree                in a wait kernel 0 holds locks where the stand-in's attempt is inside a section
-use Rattle.std.specs.Prelude.{◌≡◌, ℕ, suc, ◌≤◌, List, [], ◌∷◌, ◌++◌, map, length, Bool, true, false, ◌&&◌, not, ◌==◌, Some}
+use Rattle.std.specs.Prelude.{◌≡◌, ℕ, suc, ◌≤◌, List, [], ◌∷◌, ◌++◌, map, length, Bool, true, false, ◌&&◌, not, ◌==◌, Some, None}
 use Rattle.journal.specs.Places.{is_some}
 use Rattle.journal.specs.Closure.{Bundle}
 use Rattle.journal.specs.Entry.{Event, Item, Handed, Posted}
-use Rattle.journal.specs.Core.{Setup, Core, Queued, lives, holds_nothing, allowed, effect, replay, replay_from}
+use Rattle.journal.specs.Core.{Setup, Core, Queued, Status, status_of, attempt_of, lives, holds_nothing, allowed, effect, replay, replay_from}
 use Rattle.journal.specs.Follow.{Plan, View, is_lost, with_handed, watch, watch_from, kernel_run}
 use Rattle.journal.specs.Run.{is_resume}
 use Rattle.laws_journal.specs.Laws.{StandsIn}
@@ -90,3 +91,10 @@ WaitLocksAgree =
     (set : Setup) (plan : Plan) (ps more : List Posted) (c z : Core) (v w : View) → replay set ps ≡ Some c → kernel_run set plan 0 ps ≡ Some v → is_some c.wait ≡ true
     → StandsIn v.phase (not (holds_nothing c 0)) → none_resumes more ≡ true → replay_from set c more ≡ Some z → watch_from set plan 0 v more ≡ Some w
     → (is_some z.wait ≡ true) × StandsIn w.phase (not (holds_nothing z 0))
+
+-- ---- who runs what
+
+abbrev pub DoersAgree : Type 0
+DoersAgree =
+    (set : Setup) (ps : List Posted) (c : Core) → replay set ps ≡ Some c
+    → ((id k : ℕ) → status_of c id ≡ Some (Status.Running k) → attempt_of c k ≡ Some id) × ((k : ℕ) → lives c (suc k) ≡ false → attempt_of c (suc k) ≡ None)

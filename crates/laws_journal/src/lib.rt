@@ -6,7 +6,7 @@
 ghost use Rattle.laws_journal.specs.Laws.{SectionsApart, OneResult, AllHaveResults, RunGrows, LegalReplays, OneJournal, EntryByEntry, AttemptsAgree, PhaseIsAttempt, ClosureIsLeast, CutsPartition, AttemptsOrdered, LocksAgree, QuietComputed, QuietNamedComputed};
 ghost use Rattle.laws_journal.specs.Masters.{CallsKeepSections, CellsKeepSections};
 ghost use Rattle.laws_journal.specs.Runs.{BegunReplays, CellsJoin, LegalComposed, LegalStarted, RunPosts, UsedUpStays};
-ghost use Rattle.laws_journal.specs.Views.{HandedNeeded, ItemsAgree, ItemsStay, LivesUnlessLost, OthersPass, OwnCounted, StretchByStretch, WaitLocksAgree};
+ghost use Rattle.laws_journal.specs.Views.{DoersAgree, HandedNeeded, ItemsAgree, ItemsStay, LivesUnlessLost, OthersPass, OwnCounted, StretchByStretch, WaitLocksAgree};
 
 /// Two sections that share a lock never overlap, in whatever is a replay.
 pub fn sections_never_overlap()
@@ -145,4 +145,9 @@ pub fn locks_in_a_wait_are_the_section()
 pub fn masters_section_is_held_by_kernel_0()
     ensures calls { CallsKeepSections }
     ensures cells { CellsKeepSections }
+{}
+
+/// An item that runs is run by its kernel, and a kernel that does not live has no attempt.
+pub fn items_that_run_are_run()
+    ensures law { DoersAgree }
 {}

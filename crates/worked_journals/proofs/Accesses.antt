@@ -107,11 +107,11 @@ shared_lines = refl
 no_symbols : List Reading
 no_symbols = reads (of Builtin.DistributeDefinitions [] ∷ of Builtin.SetSharedVariable [] ∷ of Builtin.SetSharedFunction [] ∷ int 1 ∷ [])
 
-no_symbols_legal : legal (setup 0 []) no_symbols (by 0 Event.Close ∷ []) ≡ true
+no_symbols_legal : legal (setup 0) [] no_symbols (by 0 Event.Close ∷ []) ≡ true
 unfolding no_symbols row worked
 no_symbols_legal = refl
 
-no_symbols_lines : transcript (setup 0 []) false no_symbols (by 0 Event.Close ∷ []) 4 ≡ Some (Out 4 (int 1) ∷ [])
+no_symbols_lines : transcript (setup 0) false no_symbols (by 0 Event.Close ∷ []) 4 ≡ Some (Out 4 (int 1) ∷ [])
 unfolding no_symbols row worked
 no_symbols_lines = refl
 
@@ -127,10 +127,10 @@ wrapped_journal =
     ∷ by 0 (Event.Deliver 1 (call f' (of Builtin.Unevaluated (x' ∷ []) ∷ [])))
     ∷ by 0 Event.Resume ∷ by 0 Event.Close ∷ []
 
-wrapped_legal : legal (setup 0 []) wrapped wrapped_journal ≡ true
+wrapped_legal : legal (setup 0) [] wrapped wrapped_journal ≡ true
 unfolding wrapped wrapped_journal row worked
 wrapped_legal = refl
 
-wrapped_lines : transcript (setup 0 []) false wrapped wrapped_journal 2 ≡ Some (Out 2 (call f' (of Builtin.Unevaluated (x' ∷ []) ∷ [])) ∷ [])
+wrapped_lines : transcript (setup 0) false wrapped wrapped_journal 2 ≡ Some (Out 2 (call f' (of Builtin.Unevaluated (x' ∷ []) ∷ [])) ∷ [])
 unfolding wrapped wrapped_journal row worked
 wrapped_lines = refl

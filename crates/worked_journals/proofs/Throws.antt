@@ -1,5 +1,5 @@
 -- Throws that nothing catches: in an item, in a batch, in a service.
-use Rattle.std.proofs.Common.{◌≡◌, refl, true, false, List, [], ◌∷◌, ◌++◌, Some}
+use Rattle.std.proofs.Common.{◌≡◌, refl, true, false, List, [], ◌∷◌, Some}
 use Rattle.expr_tree.specs.Tree.{Tree, call}
 use Rattle.semantics.specs.declared.builtin.Builtin.{Builtin}
 use Rattle.semantics.specs.Table.{row, worked}
