@@ -4,7 +4,7 @@ use Rattle.std.specs.Prelude.{◌||◌, is_some}
 use Rattle.expr_tree.specs.declared.sym.Sym.{Sym}
 use Rattle.expr_tree.specs.Tree.{Tree}
 use Rattle.semantics.specs.Names.{Names}
-use Rattle.semantics.specs.Changes.{change, change_own, is_protected, unless_item}
+use Rattle.semantics.specs.Changes.{change, change_own, is_protected, renew, unless_item}
 use Rattle.semantics.specs.Control.{failed}
 use Rattle.semantics.specs.Definitions.{Definition, Definitions, definition_of}
 use Rattle.semantics.specs.Program.{Prog, Done, Ask, Look, Put, Check}
@@ -14,7 +14,7 @@ use Rattle.evaluation_steps.specs.Stopping.{HaltsFor}
 use Rattle.machine_steps.specs.declared.moves.Move.{Move}
 use Rattle.machine_steps.specs.Steps.{Falls, Stepped, state_at}
 use Rattle.machine_changes.specs.declared.renewal.Renewal.{Renewal}
-use Rattle.machine_changes.specs.Renewing.{given_by, left_renewal, next_of, renewed}
+use Rattle.machine_changes.specs.Renewing.{given_by, left_renewal, next_of, put, renewed}
 use Rattle.machine_changes.specs.Effects.{is_refused}
 use Rattle.machine_changes.proofs.Going.{Leads, passes_item, fails_item}
 
@@ -39,20 +39,15 @@ change_passes set s next given b {d = d} {used = used} e r u =
     }
 
 -- the question, and what follows it
-abbrev asked : Sym → (Tree → Tree) → (Tree → Tree → Tree) → Tree → Prog
-asked s next given old = Check (next old) (Ask (next old) (λ v. Look s (λ seen. Put s (record (seen.definition) { own = Some v }) (Done (given old v)))))
+abbrev asked : Names → Sym → (Tree → Tree) → (Tree → Tree → Tree) → Tree → Prog
+asked names s next given old = Check (next old) (Ask (next old) (λ v. Look s (λ seen. renew names s v (given old v) seen.definition)))
 
 abbrev by_own : Names → Sym → (Tree → Tree) → (Tree → Tree → Tree) → Option Tree → Prog
-by_own names s next given own = elim own [ None ↦ failed names | Some old ↦ asked s next given old ]
+by_own names s next given own = elim own [ None ↦ failed names | Some old ↦ asked names s next given old ]
 
-pub own_protected : (names : Names) (s : Sym) (next : Tree → Tree) (given : Tree → Tree → Tree) (x : Definition) → is_protected x ≡ true → change_own names s next given x ≡ failed names
-own_protected names s next given x h = ap (λ (b : Bool). elim b as (λ _. Prog) [ true ↦ failed names | false ↦ by_own names s next given x.own ]) h
-
-pub own_is : (names : Names) (s : Sym) (next : Tree → Tree) (given : Tree → Tree → Tree) (x : Definition) (own : Option Tree) → is_protected x ≡ false → own ≡ x.own
+pub own_is : (names : Names) (s : Sym) (next : Tree → Tree) (given : Tree → Tree → Tree) (x : Definition) (own : Option Tree) → own ≡ x.own
     → change_own names s next given x ≡ by_own names s next given own
-own_is names s next given x own h e =
-    ap (λ (b : Bool). elim b as (λ _. Prog) [ true ↦ failed names | false ↦ by_own names s next given x.own ]) h
-    ∙ ap (by_own names s next given) (sym e)
+own_is names s next given x own e = ap (by_own names s next given) (sym e)
 
 pub check_fits : {set : Setting} {e : Tree} (p : Prog) {d : Definitions} {used : Bool} → too_large set.limits e ≡ None → Leads set (Check e p) d used p d used
 check_fits {set = set} p {d = d} {used = used} h = record { by = λ ev steps o. ap (λ x. unless_stopped x (state_at d used steps o) (λ t. run set ev p t)) h }
@@ -69,6 +64,19 @@ check_halts e p Halt.NoMemory h = record { by = λ steps o. tt }
 pub before_some : (names : Names) (f : Renewal) (answer : Option Tree) (old : Tree) → f.before ≡ Some old → left_renewal names f answer ≡ renewed names f old answer
 before_some names f answer old h =
     ap (λ (o : Option Tree). elim o as (λ _. Prog) [ None ↦ change names f.symbol (next_of names f.row f.operand) (given_by f) | Some x ↦ renewed names f x answer ]) h
+
+abbrev judged : Names → Sym → Tree → Tree → Definition → Bool → Prog
+judged names s new given x b = elim b [ true ↦ failed names | false ↦ Put s (record x { own = Some new }) (Done given) ]
+
+pub renew_refused : (set : Setting) (f : Renewal) (old v : Tree) {d : Definitions} {used : Bool} → is_protected (definition_of set.names d f.symbol) ≡ true
+    → Leads set (renewed set.names f old (Some v)) d used (failed set.names) d used
+renew_refused set f old v {d = d} {used = used} h =
+    record { by = λ ev steps o. ap (λ b. run set ev (judged set.names f.symbol v (given_by f old v) (definition_of set.names d f.symbol) b) (state_at d used steps o)) h }
+
+pub renew_passes : (set : Setting) (f : Renewal) (old v : Tree) {d : Definitions} {used : Bool} → is_protected (definition_of set.names d f.symbol) ≡ false
+    → Leads set (renewed set.names f old (Some v)) d used (put set.names f old v d) d used
+renew_passes set f old v {d = d} {used = used} h =
+    record { by = λ ev steps o. ap (λ b. run set ev (judged set.names f.symbol v (given_by f old v) (definition_of set.names d f.symbol) b) (state_at d used steps o)) h }
 
 -- what asks nothing more, however many questions there were
 pub falls_ended : (r : Result Move Halt) (before : ℕ) (after : Option Tree → ℕ) → Falls r 0 (λ v. 0) → Falls r before after

@@ -1,6 +1,7 @@
 -- An own value that is made anew from the old one.
 --     operand_of            what stands behind the old value
 --     next_of, given_by     the expression that is evaluated; the result, from the old value and the new one
+--     put, renewed          the new value is assigned; the new value is there, and is assigned unless the symbol is Protected
 --     left_renewal          the program that is left
 use Rattle.std.specs.Prelude.{negsuc, [], ◌∷◌, Option, Some, None, true, false}
 use Rattle.expr_tree.specs.Tree.{Tree, integer}
@@ -8,7 +9,8 @@ use Rattle.semantics.specs.declared.builtin.Builtin.{Builtin}
 use Rattle.semantics.specs.Names.{Names, make}
 use Rattle.semantics.specs.Program.{Prog, Done, Look, Put}
 use Rattle.semantics.specs.Control.{null}
-use Rattle.semantics.specs.Changes.{change, old_value, new_value}
+use Rattle.semantics.specs.Changes.{change, renew, old_value, new_value}
+use Rattle.semantics.specs.Definitions.{Definitions, definition_of}
 use Rattle.machine_changes.specs.declared.renewal.Operand.{Operand}
 use Rattle.machine_changes.specs.declared.renewal.Renewal.{Renewal}
 
@@ -22,10 +24,12 @@ next_of names row operand old = make names row (old ∷ operand_of names operand
 abbrev pub given_by : Renewal → Tree → Tree → Tree
 given_by f = elim f.gives_old [ true ↦ old_value | false ↦ new_value ]
 
--- the new value is there
+abbrev pub put : Names → Renewal → Tree → Tree → Definitions → Prog
+put names f old v d = Put f.symbol (record (definition_of names d f.symbol) { own = Some v }) (Done (given_by f old v))
+
 abbrev pub renewed : Names → Renewal → Tree → Option Tree → Prog
 renewed names f old None = null names
-renewed names f old (Some v) = Look f.symbol (λ seen. Put f.symbol (record (seen.definition) { own = Some v }) (Done (given_by f old v)))
+renewed names f old (Some v) = Look f.symbol (λ seen. renew names f.symbol v (given_by f old v) seen.definition)
 
 abbrev pub left_renewal : Names → Renewal → Option Tree → Prog
 left_renewal names f answer =

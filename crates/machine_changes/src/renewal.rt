@@ -13,7 +13,7 @@ ghost use Rattle.machine_changes.specs.declared.renewal.Operand.{Operand};
 ghost use Rattle.machine_changes.specs.declared.change.Change.{Change};
 ghost use Rattle.machine_changes.specs.Results.{done_with};
 ghost use Rattle.machine_changes.specs.Left.{asked_once, left};
-ghost use Rattle.machine_changes.specs.Renewing.{given_by, left_renewal, next_of, operand_of, renewed};
+ghost use Rattle.machine_changes.specs.Renewing.{given_by, left_renewal, next_of, operand_of, put, renewed};
 
 use crate::change::{Change, done_with};
 use crate::effects::{is_refused, is_shared};
@@ -113,16 +113,13 @@ impl Renewal {
         }
     }
 
-    /// Asks for the new value, unless the change is refused.
+    /// Asks for the new value, unless there is no old one or the change is refused in an item.
     fn ask(&mut self, scene: &Scene, defs: &Defs, used: &mut bool) -> Result<Move, Halt>
         ensures stepped { (stay : Prog) → Stepped (setting_of scene.now) (changes.change (names_in scene.now.names.now) self.old.symbol (next_of (names_in scene.now.names.now) self.old.row self.old.operand) (given_by self.old)) stay defs.now used.old result (left_renewal (names_in scene.now.names.now) self.new) defs.now used.new }
         ensures falls { Falls result 1 (λ answer. asked_once self.new) }
     {
         let shared = is_shared(scene, defs, self.symbol);
         if is_refused(scene, used, shared) {
-            return Ok(Move::Done(name(scene.names, Builtin::Failed)));
-        }
-        if defs.is_protected(scene.names, self.symbol) {
             return Ok(Move::Done(name(scene.names, Builtin::Failed)));
         }
         let Some(old) = defs.own_of(self.symbol) else {
@@ -138,8 +135,8 @@ impl Renewal {
     }
 
     /// Gives the symbol its new value.
-    fn renew(&self, scene: &Scene, defs: &mut Defs, old: Expr, value: Expr) -> Result<Expr, Halt>
-        ensures { (used : Bool) (stay : Prog) (rest : Option Tree → Prog) → Stepped (setting_of scene.now) (renewed (names_in scene.now.names.now) self.now old (Some value)) stay defs.old used (done_with result) rest defs.new used }
+    fn put(&self, scene: &Scene, defs: &mut Defs, old: Expr, value: Expr) -> Result<Expr, Halt>
+        ensures { (used : Bool) (stay : Prog) (rest : Option Tree → Prog) → Stepped (setting_of scene.now) (put (names_in scene.now.names.now) self.now old value defs.old) stay defs.old used (done_with result) rest defs.new used }
     {
         if self.gives_old {
             defs.set_own(scene.alloc, scene.names, self.symbol, value)?;
@@ -148,6 +145,16 @@ impl Renewal {
         let kept = value.copy(scene.alloc)?;
         defs.set_own(scene.alloc, scene.names, self.symbol, kept)?;
         Ok(value)
+    }
+
+    /// Gives the symbol its new value, unless it is Protected.
+    fn renew(&self, scene: &Scene, defs: &mut Defs, old: Expr, value: Expr) -> Result<Expr, Halt>
+        ensures { (used : Bool) (stay : Prog) (rest : Option Tree → Prog) → Stepped (setting_of scene.now) (renewed (names_in scene.now.names.now) self.now old (Some value)) stay defs.old used (done_with result) rest defs.new used }
+    {
+        if defs.is_protected(scene.names, self.symbol) {
+            return Ok(name(scene.names, Builtin::Failed));
+        }
+        self.put(scene, defs, old, value)
     }
 
     /// The new value is there.

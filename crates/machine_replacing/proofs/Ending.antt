@@ -1,5 +1,6 @@
 -- What the result of a walk says of a row.
 use Rattle.std.proofs.Common.{◌≡◌, ◌∙◌, ℕ, zero, suc, List, Bool, true, false, Option, Some, None, Result, Ok, Err, ap, sym, subst, refl, inl, inr}
+use Rattle.std.specs.Prelude.{unwrap_or}
 use Rattle.expr_tree.specs.Tree.{Tree}
 use Rattle.expr_tree.specs.Order.{same}
 use Rattle.expr_tree.specs.declared.limits.Limits.{Limits}
@@ -20,6 +21,9 @@ use Rattle.machine_replacing.specs.declared.walk.Walked.{Walked}
 use Rattle.machine_replacing.specs.Moving.{Part, Walks, Ends, EndsBy, Heads, Goes}
 use Rattle.machine_replacing.specs.Rounds.{after_round, round_end, left_by, left_rounds}
 use Rattle.machine_replacing.specs.Walks.{left_walk, walk_over}
+
+pub before_round : (names : Names) (x : Rounds) (answer : Option Tree) → x.begun ≡ false → left_rounds names x answer ≡ rounds names x.walk.rules x.further (unwrap_or answer x.subject)
+before_round names x answer is = ap (λ b. left_by names x b answer) is
 
 -- the test of a round, of what was made
 by_change : (names : Names) (rs : List Rule) (n : ℕ) (e v x : Tree) → x ≡ v → (b : Bool) → same x e ≡ b
@@ -82,8 +86,13 @@ module _ {names : Names} {d : Definitions} {limits : Limits} where
       pub round_last : {left : Option Tree → Prog} → same x e ≡ false → n ≡ 0 → Goes names d limits (round_end names rs n e v) (Err (Halt.Stopped Stop.Iteration)) left
       round_last is last = record { by = record { by = inl (passing fits (shows_stop (shows_is (by_change names rs n e v x made false is ∙ ap (λ m. after_round names rs m x) last)) stop)) } }
 
-      pub round_next : (m : ℕ) → same x e ≡ false → n ≡ suc m → Shows names d limits (round_end names rs n e v) (rounds names rs m x)
-      round_next m is more = fitting fits (shows_is (by_change names rs n e v x made false is ∙ ap (λ i. after_round names rs i x) more))
+      pub round_next : (m : ℕ) (new : Rounds) → same x e ≡ false → n ≡ suc m → new.walk.rules ≡ rs → new.further ≡ m → new.begun ≡ false
+          → Goes names d limits (round_end names rs n e v) (Ok (Move.Ask x false)) (left_rounds names new)
+      round_next m new is more rules_stay further begun =
+          record { by = fitting fits (shows_is (by_change names rs n e v x made false is ∙ (ap (λ i. after_round names rs i x) more ∙ (λ i. Ask x (λ u. rest u i))))) }
+        where
+          rest : (u : Tree) → rounds names rs m u ≡ left_rounds names new (Some u)
+          rest u = (λ i. rounds names (sym rules_stay i) (sym further i) u) ∙ sym (before_round names new (Some u) begun)
 
 -- ---- a round begins
 
@@ -106,9 +115,6 @@ round_turns names d limits rs n e new walk subject further begun =
 
 in_round : (names : Names) (x : Rounds) (answer : Option Tree) → x.begun ≡ true → left_rounds names x answer ≡ left_walk names x.walk answer (round_end names x.walk.rules x.further x.subject)
 in_round names x answer is = ap (λ b. left_by names x b answer) is
-
-pub before_round : (names : Names) (x : Rounds) (answer : Option Tree) → x.begun ≡ false → left_rounds names x answer ≡ rounds names x.walk.rules x.further x.subject
-before_round names x answer is = ap (λ b. left_by names x b answer) is
 
 module _ (names : Names) (d : Definitions) (limits : Limits) (old : Rounds) (answer : Option Tree) (begun : old.begun ≡ true) where
   pub round_asks : {e : Tree} {turn : Bool} (new : Rounds) → new.begun ≡ true → new.further ≡ old.further → new.subject ≡ old.subject → new.walk.rules ≡ old.walk.rules

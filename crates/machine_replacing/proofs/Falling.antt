@@ -2,13 +2,12 @@
 use Rattle.std.proofs.Common.{◌≡◌, ◌<◌, ◌≤◌, ℕ, zero, suc, ◌+◌, List, [], ◌∷◌, ◌++◌, reverse, Bool, true, false, Option, Some, None, Result, Ok, Err, refl, sym, subst, arith}
 use Rattle.std.specs.Prelude.{pos, drop}
 use Rattle.expr_tree.specs.Tree.{Tree, integer, string, symbol, normal, Trees, nil, cons, trees, elements, call}
-use Rattle.expr_tree.specs.Order.{same}
 use Rattle.expr_tree.specs.declared.limits.Limits.{Limits}
 use Rattle.semantics.specs.Names.{Names}
 use Rattle.semantics.specs.Rule.{Rule}
 use Rattle.semantics.specs.Definitions.{Definitions}
 use Rattle.semantics.specs.Program.{Prog, Done, Ask, Turn}
-use Rattle.semantics.specs.Replace.{replaced, replaced_items, rounds}
+use Rattle.semantics.specs.Replace.{replaced, replaced_items}
 use Rattle.evaluation_steps.specs.declared.Halt.{Halt}
 use Rattle.evaluation_steps.specs.Moves.{turning}
 use Rattle.machine_steps.specs.declared.moves.Move.{Move}
@@ -22,13 +21,10 @@ use Rattle.rule_frames.specs.Worst.{worst}
 use Rattle.rule_frames.proofs.Falling.{Plain, shows_no_more, question_falls, both_plain, guards_plain, bindings_plain, rules_plain}
 use Rattle.machine_replacing.specs.declared.level.Level.{Level}
 use Rattle.machine_replacing.specs.declared.level.Elements.{Elements}
-use Rattle.machine_replacing.specs.declared.rewriting.Rewriting.{Rewriting}
-use Rattle.machine_replacing.specs.declared.rounds.Rounds.{Rounds}
 use Rattle.machine_replacing.specs.declared.walk.Walk.{Walk}
-use Rattle.machine_replacing.specs.Left.{left_machine, questions}
+use Rattle.machine_replacing.specs.Left.{asked_all, left_all}
 use Rattle.machine_replacing.specs.Levels.{with_part, elements_left, risen}
 use Rattle.machine_replacing.specs.Moving.{Goes}
-use Rattle.machine_replacing.specs.Rounds as r
 use Rattle.machine_replacing.specs.Walks as w
 
 abbrev Plains : Names → (Tree → Prog) → Type 0
@@ -98,26 +94,6 @@ walk_by_plain names x (Some a) answer k plain =
 walk_plain : (names : Names) (x : Walk) (answer : Option Tree) (k : Tree → Prog) → Plains names k → Plain names (w.left_walk names x answer k)
 walk_plain names x answer k plain = walk_by_plain names x x.present answer k plain
 
--- ---- so are rounds
-
-rounds_plain : (names : Names) (rs : List Rule) (n : ℕ) (e : Tree) → Plain names (rounds names rs n e)
-rounds_plain names rs zero e = replaced_plain names rs e (r.round_end names rs zero e) (λ f. both_plain names (Done f) (r.after_round names rs zero f) (same f e) tt tt)
-rounds_plain names rs (suc n) e = replaced_plain names rs e (r.round_end names rs (suc n) e) (λ f. both_plain names (Done f) (r.after_round names rs (suc n) f) (same f e) tt (rounds_plain names rs n f))
-
-after_round_plain : (names : Names) (rs : List Rule) (n : ℕ) (f : Tree) → Plain names (r.after_round names rs n f)
-after_round_plain names rs zero f = tt
-after_round_plain names rs (suc n) f = rounds_plain names rs n f
-
-rounds_by_plain : (names : Names) (x : Rounds) (begun : Bool) (answer : Option Tree) → Plain names (r.left_by names x begun answer)
-rounds_by_plain names x false answer = rounds_plain names x.walk.rules x.further x.subject
-rounds_by_plain names x true answer =
-    walk_plain names x.walk answer (r.round_end names x.walk.rules x.further x.subject)
-    (λ f. both_plain names (Done f) (r.after_round names x.walk.rules x.further f) (same f x.subject) tt (after_round_plain names x.walk.rules x.further f))
-
-machine_plain : (names : Names) (m : Rewriting) (answer : Option Tree) → Plain names (left_machine names m answer)
-machine_plain names (Rewriting.All x) answer = walk_plain names x answer Done (λ v. tt)
-machine_plain names (Rewriting.Repeated x) answer = rounds_by_plain names x x.begun answer
-
 -- ---- no answer is as one that is not True
 
 trial_alike : (names : Names) (a : Attempt) (t : Option Trial) (k : Option Tree → Prog) → trials.left_by names a t None k ≡ trials.left_by names a t (Some (integer (pos 0))) k
@@ -128,13 +104,8 @@ walk_alike : (names : Names) (x : Walk) (p : Option Attempt) (k : Tree → Prog)
 walk_alike names x None k = refl
 walk_alike names x (Some a) k = trial_alike names a a.trial (w.after names x.rules x.place (w.upward names x k))
 
-rounds_alike : (names : Names) (x : Rounds) (begun : Bool) → r.left_by names x begun None ≡ r.left_by names x begun (Some (integer (pos 0)))
-rounds_alike names x false = refl
-rounds_alike names x true = walk_alike names x.walk x.walk.present (r.round_end names x.walk.rules x.further x.subject)
-
-machine_alike : (names : Names) (m : Rewriting) → left_machine names m None ≡ left_machine names m (Some (integer (pos 0)))
-machine_alike names (Rewriting.All x) = walk_alike names x x.present Done
-machine_alike names (Rewriting.Repeated x) = rounds_alike names x x.begun
+all_alike : (names : Names) (x : Walk) → left_all names x None ≡ left_all names x (Some (integer (pos 0)))
+all_alike names x = walk_alike names x x.present Done
 
 -- ---- fewer are left
 
@@ -147,11 +118,21 @@ module _ {names : Names} {d : Definitions} {limits : Limits} {p : Prog} (rest : 
   turns_less : ((answer : Option Tree) → Shows names d limits p (Turn (rest answer))) → Plain names p → (v : Option Tree) → worst names (rest v) < worst names p
   turns_less s plain v = let on = shows_no_more (s v) plain in let less : 1 + worst names (rest v) ≤ worst names p = on.0 in omega (arith, less)
 
-pub machine_falls : (names : Names) (d : Definitions) (limits : Limits) (old new : Rewriting) (answer : Option Tree) (x : Result Move Halt) → Goes names d limits (left_machine names old answer) x (left_machine names new)
-    → Falls x (questions names old answer) (questions names new)
-machine_falls names d limits old new answer (Ok (Move.Ask e turn)) g = asks_less (left_machine names new) e turn (machine_alike names new) g.by (machine_plain names old answer)
-machine_falls names d limits old new answer (Ok (Move.Within ls e turn)) g = absurd g.by
-machine_falls names d limits old new answer (Ok Move.Turn) g = turns_less (left_machine names new) g.by (machine_plain names old answer)
-machine_falls names d limits old new answer (Ok (Move.Done e)) g = tt
-machine_falls names d limits old new answer (Ok Move.Stays) g = tt
-machine_falls names d limits old new answer (Err h) g = tt
+pub all_falls : (names : Names) (d : Definitions) (limits : Limits) (old new : Walk) (answer : Option Tree) (x : Result Move Halt) → Goes names d limits (left_all names old answer) x (left_all names new)
+    → Falls x (asked_all names old answer) (asked_all names new)
+all_falls names d limits old new answer (Ok (Move.Ask e turn)) g = asks_less (left_all names new) e turn (all_alike names new) g.by (walk_plain names old answer Done (λ v. tt))
+all_falls names d limits old new answer (Ok (Move.Within ls e turn)) g = absurd g.by
+all_falls names d limits old new answer (Ok Move.Turn) g = turns_less (left_all names new) g.by (walk_plain names old answer Done (λ v. tt))
+all_falls names d limits old new answer (Ok (Move.Done e)) g = tt
+all_falls names d limits old new answer (Ok Move.Stays) g = tt
+all_falls names d limits old new answer (Err h) g = tt
+
+-- ---- so are moves that are counted down
+
+pub counted : (x : Result Move Halt) (before after : ℕ) → after < before → Falls x before (λ v. after)
+counted (Ok (Move.Ask e turn)) before after less = λ v. less
+counted (Ok (Move.Within ls e turn)) before after less = λ v. less
+counted (Ok Move.Turn) before after less = λ v. less
+counted (Ok (Move.Done e)) before after less = tt
+counted (Ok Move.Stays) before after less = tt
+counted (Err h) before after less = tt

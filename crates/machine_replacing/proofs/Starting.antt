@@ -9,6 +9,7 @@ use Rattle.semantics.specs.Rule.{Rule}
 use Rattle.semantics.specs.Program.{Prog, Done}
 use Rattle.semantics.specs.Replace.{replaced, rounds, rule_set, replace_all, replace_repeated}
 use Rattle.machine_replacing.specs.declared.rewriting.Rewriting.{Rewriting}
+use Rattle.machine_replacing.specs.declared.repeated.Repeated.{Repeated}
 use Rattle.machine_replacing.specs.declared.rounds.Rounds.{Rounds}
 use Rattle.machine_replacing.specs.declared.walk.Walk.{Walk}
 use Rattle.machine_replacing.specs.Left.{left, left_all}
@@ -51,6 +52,6 @@ module _ (names : Names) (items : List Tree) (e s : Tree) (pair : pair_of items 
   pub all_starts : (rs : List Rule) (w : Walk) → Some rs ≡ rule_set names s → w ≡ walk_over rs e → Starts {F = Rewriting} {E = AllocError} (left names) (λ stay. replace_all names stay items) (Ok (Some (Rewriting.All w)))
   all_starts rs w set is = record { by = λ stay. all_by stay (Some rs) set ∙ ap (λ x. left_all names x None) (sym is) }
 
-  pub repeated_starts : (rs : List Rule) (x : Rounds) → Some rs ≡ rule_set names s → x ≡ rounds_over rs e
+  pub repeated_starts : (rs : List Rule) (x : Repeated) → Some rs ≡ rule_set names s → x.rounds ≡ rounds_over rs e
       → Starts {F = Rewriting} {E = AllocError} (left names) (λ stay. replace_repeated names stay items) (Ok (Some (Rewriting.Repeated x)))
-  repeated_starts rs x set is = record { by = λ stay. repeated_by stay (Some rs) x.further set (sym (ap (λ y. y.further) is)) ∙ sym (before_first names rs e x is) }
+  repeated_starts rs x set is = record { by = λ stay. repeated_by stay (Some rs) x.rounds.further set (sym (ap (λ y. y.further) is)) ∙ sym (before_first names rs e x.rounds is) }

@@ -1,7 +1,7 @@
 -- The program that is left of a row, and the questions that are left.
 --     is_rewriting          the rows of this crate
 --     left, left_machine, left_all      the program that is left; what stays does not matter once a machine has started
---     questions             the most questions and turns that are left, whatever the answers are
+--     questions             no fewer than the questions and turns that are left, whatever the answers are
 use Rattle.std.specs.Prelude.{ℕ, Bool, true, false, Option}
 use Rattle.expr_tree.specs.Tree.{Tree}
 use Rattle.semantics.specs.declared.builtin.Builtin.{Builtin}
@@ -24,10 +24,15 @@ left_all names w answer = left_walk names w answer Done
 
 abbrev pub left_machine : Names → Rewriting → Option Tree → Prog
 left_machine names (Rewriting.All w) answer = left_all names w answer
-left_machine names (Rewriting.Repeated r) answer = left_rounds names r answer
+left_machine names (Rewriting.Repeated r) answer = left_rounds names r.rounds answer
 
 abbrev pub left : Names → Rewriting → Prog → Option Tree → Prog
 left names m stay answer = left_machine names m answer
 
+-- of ReplaceAll
+abbrev pub asked_all : Names → Walk → Option Tree → ℕ
+asked_all names w answer = worst names (left_all names w answer)
+
 abbrev pub questions : Names → Rewriting → Option Tree → ℕ
-questions names m answer = worst names (left_machine names m answer)
+questions names (Rewriting.All w) answer = asked_all names w answer
+questions names (Rewriting.Repeated r) answer = r.moves

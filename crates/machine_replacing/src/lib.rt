@@ -3,12 +3,14 @@
 #![tactic(auto)]
 
 mod level;
+mod repeated;
 mod rewriting;
 mod rounds;
 mod rule_sets;
 mod walk;
 
 pub use level::{Elements, Level};
+pub use repeated::Repeated;
 pub use rewriting::{Rewriting, start};
 pub use rounds::Rounds;
 pub use walk::{Walk, Walked};

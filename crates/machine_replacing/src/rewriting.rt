@@ -6,10 +6,10 @@ ghost use Rattle.semantics.specs.Table as t;
 ghost use Rattle.builtin_names.specs.Named.{HasBuiltins, names_in};
 ghost use Rattle.machine_steps.specs.Setup.{setting_of};
 ghost use Rattle.machine_steps.specs.Steps.{Starts, Stepped, Falls};
-ghost use Rattle.machine_replacing.specs.Left.{is_rewriting, left, left_all, left_machine, questions};
+ghost use Rattle.machine_replacing.specs.Left.{asked_all, is_rewriting, left, left_all, left_machine, questions};
 ghost use Rattle.machine_replacing.specs.Moving.{Goes};
 
-use crate::rounds::Rounds;
+use crate::repeated::Repeated;
 use crate::rule_sets::rule_set;
 use crate::walk::{Walk, Walked};
 use evaluation_steps::Halt;
@@ -24,7 +24,7 @@ use std::alloc::{AllocError, Global};
 #[derive(Drop)]
 pub enum Rewriting {
     All(Walk),
-    Repeated(Rounds),
+    Repeated(Repeated),
 }
 
 /// ReplaceAll: the rules at each place.
@@ -63,8 +63,8 @@ fn replace_repeated(
     let Some(rules) = rule_set(alloc, names, set)? else {
         return Ok(None);
     };
-    let rounds = Rounds::start(alloc, rules, subject)?;
-    Ok(Some(Rewriting::Repeated(rounds)))
+    let repeated = Repeated::start(alloc, rules, subject)?;
+    Ok(Some(Rewriting::Repeated(repeated)))
 }
 
 /// The machine of a row, or `None` where its expression stays as it is. `None` in place of both for a row that is none of this crate.
@@ -86,8 +86,8 @@ pub fn start(
     }
 }
 
-/// A step of ReplaceAll.
-fn step_all(walk: &mut Walk, scene: &Scene, defs: &Defs, answer: Option<Expr>) -> Result<Move, Halt>
+/// What a step of ReplaceAll comes to.
+fn go_all(walk: &mut Walk, scene: &Scene, defs: &Defs, answer: Option<Expr>) -> Result<Move, Halt>
     ensures { Goes (names_in scene.now.names.now) defs.now scene.now.limits (left_all (names_in scene.now.names.now) walk.old answer) result (left_all (names_in scene.now.names.now) walk.new) }
 {
     match walk.step(scene, defs, answer) {
@@ -100,13 +100,22 @@ fn step_all(walk: &mut Walk, scene: &Scene, defs: &Defs, answer: Option<Expr>) -
     }
 }
 
+/// A step of ReplaceAll.
+fn step_all(walk: &mut Walk, scene: &Scene, defs: &Defs, answer: Option<Expr>) -> Result<Move, Halt>
+    ensures goes { Goes (names_in scene.now.names.now) defs.now scene.now.limits (left_all (names_in scene.now.names.now) walk.old answer) result (left_all (names_in scene.now.names.now) walk.new) }
+    ensures falls { Falls result (asked_all (names_in scene.now.names.now) walk.old answer) (asked_all (names_in scene.now.names.now) walk.new) }
+{
+    go_all(walk, scene, defs, answer)
+}
+
 impl Rewriting {
     fn go(&mut self, scene: &Scene, defs: &Defs, answer: Option<Expr>) -> Result<Move, Halt>
-        ensures { Goes (names_in scene.now.names.now) defs.now scene.now.limits (left_machine (names_in scene.now.names.now) self.old answer) result (left_machine (names_in scene.now.names.now) self.new) }
+        ensures goes { Goes (names_in scene.now.names.now) defs.now scene.now.limits (left_machine (names_in scene.now.names.now) self.old answer) result (left_machine (names_in scene.now.names.now) self.new) }
+        ensures falls { Falls result (questions (names_in scene.now.names.now) self.old answer) (questions (names_in scene.now.names.now) self.new) }
     {
         match self {
             Rewriting::All(walk) => step_all(walk, scene, defs, answer),
-            Rewriting::Repeated(rounds) => rounds.step(scene, defs, answer),
+            Rewriting::Repeated(repeated) => repeated.step(scene, defs, answer),
         }
     }
 

@@ -1,5 +1,5 @@
 //! ReplaceRepeated: rounds of replacing, until one changes nothing.
-ghost use Rattle.std.specs.Prelude.{◌≡◌, IfOk};
+ghost use Rattle.std.specs.Prelude.{◌≡◌, IfOk, unwrap_or};
 ghost use Rattle.expr_tree.specs.declared.limits.Limits as l;
 ghost use Rattle.semantics.specs.Definitions.{Definitions};
 ghost use Rattle.semantics.specs.Names as n;
@@ -59,6 +59,19 @@ impl Rounds {
         Ok(Move::Turn)
     }
 
+    /// Begins a round with the value of what the round before it made, or the first one.
+    fn begin_with(&mut self, alloc: Global, value: Option<Expr>) -> Result<Move, Halt>
+        ensures { (names : n.Names) (d : Definitions) (limits : l.Limits) → Goes names d limits (replace.rounds names self.old.walk.rules self.old.further (unwrap_or value self.old.subject)) result (left_rounds names self.new) }
+    {
+        match value {
+            None => self.begin(alloc),
+            Some(value) => {
+                self.subject = value;
+                self.begin(alloc)
+            }
+        }
+    }
+
     /// The end of a round, by its result.
     fn end(&mut self, scene: &Scene, whole: Formed) -> Result<Move, Halt>
         ensures { (d : Definitions) → Goes (names_in scene.now.names.now) d scene.now.limits (round_end (names_in scene.now.names.now) self.old.walk.rules self.old.further self.old.subject whole) result (left_rounds (names_in scene.now.names.now) self.new) }
@@ -74,8 +87,8 @@ impl Rounds {
             return Err(Halt::Stopped(Stop::Iteration));
         }
         self.further -= 1;
-        self.subject = result;
-        self.begin(scene.alloc)
+        self.begun = false;
+        Ok(Move::Ask(result, false))
     }
 
     /// Goes on with the answer to its question, or from the start.
@@ -88,7 +101,7 @@ impl Rounds {
         ensures { Goes (names_in scene.now.names.now) defs.now scene.now.limits (left_rounds (names_in scene.now.names.now) self.old answer) result (left_rounds (names_in scene.now.names.now) self.new) }
     {
         if !self.begun {
-            return self.begin(scene.alloc);
+            return self.begin_with(scene.alloc, answer);
         }
         match self.walk.step(scene, defs, answer) {
             Ok(Walked::Ask(question, turn)) => Ok(Move::Ask(question, turn)),

@@ -38,6 +38,7 @@ static VALUES: &[Row] = values![
     "Module[{x = Module[{y}, y]}, x]" => "y$2",
     "a--b" => "$Failed*b",
     "HoldComplete[x_1]" => "HoldComplete[x_*1]",
+    "n++" => "$Failed",
     "x /: x = 3" => "$Failed",
     "f[x_sq] ^:= v" => "$Failed",
     "a -> Sequence[b, c]" => "a -> Sequence[b, c]",
@@ -61,6 +62,11 @@ static SCRIPTS: &[Row] = rows![
     "a typed blank is tried before a sequence": ["f[x__] := 1", "f[x_] := 2", "f[x_g] := 3", "{f[g[]], f[a], f[a, b]}"] =>
         ["Out[4]= {3, 2, 1}"],
     "a Protected symbol keeps its rules": ["Protect[f]", "f[x_] := 1", "f[1]"] => ["Out[2]= $Failed", "Out[3]= f[1]"],
+    "a Protected symbol keeps its value": ["n = 1", "Protect[n]", "n++", "n"] =>
+        ["Out[1]= 1", "Out[3]= $Failed", "Out[4]= 1"],
+    "a symbol may be Protected by the time its new value is known": ["n := (Protect[n]; 1)", "n++", "n"] =>
+        ["Out[2]= $Failed", "Out[3]= 1"],
+    "or no longer": ["n := (Unprotect[n]; 1)", "Protect[n]", "n++", "n"] => ["Out[3]= 1", "Out[4]= 2"],
     "up rules are tried before down rules": ["g[sq] ^= 1", "g[x_] := 2", "g[sq]"] => ["Out[1]= 1", "Out[3]= 1"],
     "a tag that is the head": ["f /: f[x_] = x", "f[3]"] => ["Out[1]= x", "Out[2]= 3"],
     "a function that is Listable": ["SetAttributes[f, Listable]", "f[{1, 2}, x]"] => ["Out[2]= {f[1, x], f[2, x]}"],

@@ -186,7 +186,7 @@ static DIFFERENCES: &[Row] = values![
     "Cases[f[1, a], _?IntegerQ]" => "f[1]",
     "a + b + c /. a + b -> d" => "a + b + c",
     "x /. {{x -> 1}}" => "x /. {{x -> 1}}",
-    "{1, 2, 3} //. {x_, y__} -> {y}" => "{2, 3}",
+    "{1, 2, 3} //. {x_, y__} -> {y}" => "{3}",
     "x =." => "$Failed",
     "With[{x = y}, Function[y, x]]" => "Function[y, y]",
     "Module[{x}, x]" => "x$1",

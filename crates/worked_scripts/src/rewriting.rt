@@ -49,10 +49,12 @@ static REPEATED: &[Row] = values![
     "f[0] //. f[n_] -> f[g[n]]" => "$Aborted",
     "Hold[f[0]] //. f[n_] :> n + 1" => "Hold[0 + 1]",
     "f[0] //. f[n_] /; n < 3 :> f[n + 1]" => "f[3]",
-    "{1, 2, 3} //. {x_, y__} -> {y}" => "{2, 3}",
-    "p[Nest[s, 0, 126], Fold[p[Nest[s, 0, 127], #] &, end, Range[31]]] //. {p[s[x_], y_] -> p[x, y], p[0, y_] -> y}" =>
-        "end",
-    "p[Nest[s, 0, 127], Fold[p[Nest[s, 0, 127], #] &, end, Range[31]]] //. {p[s[x_], y_] -> p[x, y], p[0, y_] -> y}" =>
+    "{1, 2, 3} //. {x_, y__} -> {y}" => "{3}",
+    "{3, 1, 2} //. {x___, y_, z_, w___} /; y > z -> {x, z, y, w}" => "{1, 2, 3}",
+    "f[1] //. f[n_] :> n + 1" => "2",
+    "Hold[p[u, v]] /. {u -> Nest[s, 0, 126], v -> Fold[p[Nest[s, 0, 127], #] &, end, Range[31]]} //. {p[s[x_], y_] -> p[x, y], p[0, y_] -> y}" =>
+        "Hold[end]",
+    "Hold[p[u, v]] /. {u -> Nest[s, 0, 127], v -> Fold[p[Nest[s, 0, 127], #] &, end, Range[31]]} //. {p[s[x_], y_] -> p[x, y], p[0, y_] -> y}" =>
         "$Aborted",
 ];
 
@@ -87,6 +89,8 @@ static BY_ATTRIBUTES: &[Row] = rows![
     ],
     "elements that match under Orderless": ["SetAttributes[o, Orderless]", "Cases[{o[b, a], o[b]}, o[a, _]]"] =>
         ["Out[2]= {o[a, b]}"],
+    "a round begins with the value of what the one before it made": ["b := c", "a //. {a :> b, c -> d}"] =>
+        ["Out[2]= d"],
     "the first rule is tried first, however specific the second": ["{f[0], f[1]} /. {f[x_] -> a, f[0] -> b}"] =>
         ["Out[1]= {a, a}"],
 ];

@@ -7,4 +7,4 @@ use Rattle.machine_replacing.proofs.rewriting.replace_repeated.Goals as goal
 pub returns : goal.returns
 returns c =
     let found : pair_of c.args.items.now ≡ Some (c.in-Some.subject.now, c.in-Some.set.now) = search rules in
-    repeated_starts (names_in c.args.names.now) c.args.items.now c.in-Some.subject.now c.in-Some.set.now found c.in-Some-2.rules c.in_ok-rounds.rounds (sym c.in-Some-2.is ∙ c.in_ok-rules.ensures) c.in_ok-rounds.ensures
+    repeated_starts (names_in c.args.names.now) c.args.items.now c.in-Some.subject.now c.in-Some.set.now found c.in-Some-2.rules c.in_ok-repeated.repeated (sym c.in-Some-2.is ∙ c.in_ok-rules.ensures) c.in_ok-repeated.ensures

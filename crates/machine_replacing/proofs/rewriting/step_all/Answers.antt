@@ -1,9 +1,6 @@
-use Rattle.semantics.specs.Program.{Done}
-use Rattle.machine_replacing.proofs.Ending.{walk_asks, walk_halts}
+use Rattle.builtin_names.specs.Named.{names_in}
+use Rattle.machine_replacing.proofs.Falling.{all_falls}
 use Rattle.machine_replacing.proofs.rewriting.step_all.Goals as goal
 
-pub returns-in-Ok-Ask : goal.returns-in-Ok-Ask
-returns-in-Ok-Ask c = walk_asks Done (rw c.in-Ok-Ask.field-0-is at c.in-Ok-Ask.ensures.goes)
-
-pub returns-in-Err : goal.returns-in-Err
-returns-in-Err c = walk_halts Done c.in-Err.ensures.goes
+pub returns-clause-falls : goal.returns-clause-falls
+returns-clause-falls c = all_falls (names_in c.args.scene.now.names.now) c.args.defs.now c.args.scene.now.limits c.args.walk.now c.go_all.new.walk c.args.answer c.go_all.result c.go_all.ensures

@@ -4,7 +4,7 @@ use Rattle.builtin_names.specs.Named.{names_in}
 use Rattle.machine_steps.specs.Setup.{setting_of}
 use Rattle.machine_changes.specs.Renewing.{given_by, next_of}
 use Rattle.machine_changes.proofs.Going.{gives, goes_on, same_program, onward}
-use Rattle.machine_changes.proofs.Renewals.{change_refused, change_passes, own_protected, own_is, check_halts}
+use Rattle.machine_changes.proofs.Renewals.{change_refused, change_passes, own_is, check_halts}
 use Rattle.machine_changes.proofs.renewal.Renewal.ask.Goals as goal
 
 pub returns-then-is_refused-clause-stepped : goal.returns-then-is_refused-clause-stepped
@@ -15,16 +15,6 @@ returns-then-is_refused-clause-stepped c =
     rw c.name.ensures
     (gives (change_refused (setting_of c.args.scene.now) f.symbol (next_of names f.row f.operand) (given_by f) c.is_shared-shared.result c.is_shared-shared.ensures (sym c.is_refused.ensures.refused ∙ c.if-is_refused.true) c.is_refused.ensures.used))
 
-pub returns-then-is_protected-clause-stepped : goal.returns-then-is_protected-clause-stepped
-returns-then-is_protected-clause-stepped c =
-    let names = names_in c.args.scene.now.names.now in
-    let f = c.args.self.now in
-    λ stay.
-    rw c.name-then-is_protected.ensures
-    (gives
-    (onward (change_passes (setting_of c.args.scene.now) f.symbol (next_of names f.row f.operand) (given_by f) c.is_shared-shared.result c.is_shared-shared.ensures (sym c.is_refused.ensures.refused ∙ c.if-is_refused.false) c.is_refused.ensures.used)
-    (same_program (own_protected names f.symbol (next_of names f.row f.operand) (given_by f) (definition_of names c.args.defs.now f.symbol) (sym c.is_protected.ensures ∙ c.if-is_protected.true)))))
-
 pub returns-in_default-clause-stepped : goal.returns-in_default-clause-stepped
 returns-in_default-clause-stepped c =
     let names = names_in c.args.scene.now.names.now in
@@ -33,7 +23,7 @@ returns-in_default-clause-stepped c =
     rw c.name-in_default.ensures
     (gives
     (onward (change_passes (setting_of c.args.scene.now) f.symbol (next_of names f.row f.operand) (given_by f) c.is_shared-shared.result c.is_shared-shared.ensures (sym c.is_refused.ensures.refused ∙ c.if-is_refused.false) c.is_refused.ensures.used)
-    (same_program (own_is names f.symbol (next_of names f.row f.operand) (given_by f) (definition_of names c.args.defs.now f.symbol) None (sym c.is_protected.ensures ∙ c.if-is_protected.false) (c.in_default.ensures names)))))
+    (same_program (own_is names f.symbol (next_of names f.row f.operand) (given_by f) (definition_of names c.args.defs.now f.symbol) None (c.in_default.ensures names)))))
 
 pub returns-in-Err-clause-stepped : goal.returns-in-Err-clause-stepped
 returns-in-Err-clause-stepped c =
@@ -43,5 +33,5 @@ returns-in-Err-clause-stepped c =
     λ stay.
     goes_on _
     (onward (change_passes (setting_of c.args.scene.now) f.symbol (next_of names f.row f.operand) (given_by f) c.is_shared-shared.result c.is_shared-shared.ensures (sym c.is_refused.ensures.refused ∙ c.if-is_refused.false) c.is_refused.ensures.used)
-    (same_program (own_is names f.symbol (next_of names f.row f.operand) (given_by f) (definition_of names c.args.defs.now f.symbol) (Some c.in-Some.old.now) (sym c.is_protected.ensures ∙ c.if-is_protected.false) (c.in-Some.ensures names))))
+    (same_program (own_is names f.symbol (next_of names f.row f.operand) (given_by f) (definition_of names c.args.defs.now f.symbol) (Some c.in-Some.old.now) (c.in-Some.ensures names))))
     (check_halts _ _ _ h.by)

@@ -2,14 +2,9 @@ use Rattle.builtin_names.specs.Named.{names_in}
 use Rattle.machine_steps.specs.Setup.{setting_of}
 use Rattle.machine_replacing.specs.Left.{left_machine}
 use Rattle.machine_replacing.proofs.Running.{goes_stepped}
-use Rattle.machine_replacing.proofs.Falling.{machine_falls}
 use Rattle.machine_replacing.proofs.rewriting.Rewriting.step.Goals as goal
 
 pub returns-clause-stepped : goal.returns-clause-stepped
 returns-clause-stepped c = λ stay.
     goes_stepped (setting_of c.args.scene.now) c.args.defs.now c.args.used.now (left_machine (names_in c.args.scene.now.names.now) c.args.self.now c.args.answer) stay c.go.result
-    (left_machine (names_in c.args.scene.now.names.now) c.go.new.self) c.go.ensures
-
-pub returns-clause-falls : goal.returns-clause-falls
-returns-clause-falls c =
-    machine_falls (names_in c.args.scene.now.names.now) c.args.defs.now c.args.scene.now.limits c.args.self.now c.go.new.self c.args.answer c.go.result c.go.ensures
+    (left_machine (names_in c.args.scene.now.names.now) c.go.new.self) c.go.ensures.goes

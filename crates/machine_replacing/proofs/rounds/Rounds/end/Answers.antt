@@ -1,6 +1,5 @@
-use Rattle.std.proofs.Common.{◌≡◌, ◌∙◌, suc, ◌-◌, sym, arith}
-use Rattle.builtin_names.specs.Named.{names_in}
-use Rattle.machine_replacing.proofs.Ending.{goes_after, round_large, round_same, round_last, round_next}
+use Rattle.std.proofs.Common.{◌≡◌, ◌∙◌, suc, ◌-◌, false, sym, refl, arith}
+use Rattle.machine_replacing.proofs.Ending.{round_large, round_same, round_last, round_next}
 use Rattle.machine_replacing.proofs.rounds.Rounds.end.Goals as goal
 
 pub returns-in-Err : goal.returns-in-Err
@@ -17,6 +16,6 @@ returns-then-self-eq0 c = λ d.
 pub returns : goal.returns
 returns c = λ d.
     let more : c.args.self.now.further ≡ suc (c.args.self.now.further - 1) = omega (arith, c.if-self-eq0.false) in
-    goes_after
-    (round_next c.args.self.now.walk.rules c.args.self.now.further c.args.self.now.subject c.args.whole c.in-Ok.result c.in-Ok.ensures.0 c.in-Ok.ensures.1 (c.args.self.now.further - 1) (sym c.equals.ensures ∙ c.if-equals.false) more)
-    (c.begin.ensures (names_in c.args.scene.now.names.now) d c.args.scene.now.limits)
+    round_next c.args.self.now.walk.rules c.args.self.now.further c.args.self.now.subject c.args.whole c.in-Ok.result c.in-Ok.ensures.0 c.in-Ok.ensures.1 (c.args.self.now.further - 1)
+    (record { walk = c.args.self.now.walk; subject = c.args.self.now.subject; further = c.args.self.now.further - 1; begun = false })
+    (sym c.equals.ensures ∙ c.if-equals.false) more refl refl refl

@@ -6,7 +6,7 @@ use Rattle.machine_replacing.proofs.rounds.Rounds.step.Goals as goal
 
 pub returns-then-not-self : goal.returns-then-not-self
 returns-then-not-self c =
-    goes_after (shows_is (before_round (names_in c.args.scene.now.names.now) c.args.self.now c.args.answer c.if-not-self.true)) (c.begin.ensures (names_in c.args.scene.now.names.now) c.args.defs.now c.args.scene.now.limits)
+    goes_after (shows_is (before_round (names_in c.args.scene.now.names.now) c.args.self.now c.args.answer c.if-not-self.true)) (c.begin_with.ensures (names_in c.args.scene.now.names.now) c.args.defs.now c.args.scene.now.limits)
 
 pub returns-in-Ok-Ask : goal.returns-in-Ok-Ask
 returns-in-Ok-Ask c =
