@@ -72,7 +72,7 @@ last_takes_all names how h p es found =
 abbrev pub NoneOf : ℕ → (Taken → List Found) → Type 0
 NoneOf n f = (t : Taken) → length t.run + length t.left ≡ n → f t ≡ []
 
-no_run : (f : Taken → List Found) (es : List Tree) → NoneOf (length es) f → joined (map f (runs es)) ≡ []
+pub no_run : (f : Taken → List Found) (es : List Tree) → NoneOf (length es) f → joined (map f (runs es)) ≡ []
 no_run f [] none = λ i. none (all_of []) refl i ++ []
 no_run f (e ∷ es) none =
     let here : f (record { run = []; left = e ∷ es }) ≡ [] = none (record { run = []; left = e ∷ es }) (omega arith) in
@@ -121,7 +121,7 @@ nothing_by names how h ps left fs e = ap (λ gs. joined (map (match_items names 
 pub beside_others : (names : Names) (how : Matching) (h : Tree) (ps : List Element) (left : List Tree) (fs : List Found) → ((found : Found) → match_items names how h ps left found ≡ []) → joined (map (match_items names how h ps left) fs) ≡ []
 beside_others names how h ps left fs none = joined-none (match_items names how h ps left) fs none
 
-below : (m n : ℕ) → (m < n) ⊎ (n ≤ m)
+pub below : (m n : ℕ) → (m < n) ⊎ (n ≤ m)
 below m n = by_test (ltb m n) refl
   where
     by_test : (b : Bool) → ltb m n ≡ b → (m < n) ⊎ (n ≤ m)
