@@ -1,11 +1,8 @@
--- The rows of strings.
+-- The rows of strings, by their kind.
 --     is_of_strings
-use Rattle.std.specs.Prelude.{Bool, true, false}
+use Rattle.std.specs.Prelude.{Bool}
 use Rattle.semantics.specs.declared.builtin.Builtin.{Builtin}
+use Rattle.row_kinds.specs.Kinds as kinds
 
 abbrev pub is_of_strings : Builtin → Bool
-is_of_strings Builtin.StringJoin = true
-is_of_strings Builtin.StringLength = true
-is_of_strings Builtin.Characters = true
-is_of_strings Builtin.StringReverse = true
-is_of_strings _ = false
+is_of_strings row = kinds.is_of_strings row

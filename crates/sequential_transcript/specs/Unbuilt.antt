@@ -1,34 +1,15 @@
 -- Which expressions have a name whose row is not built.
 --     is_unbuilt           the rows that are not built: those that need other kernels, shared symbols or an outside, and Throw and Catch
 --     has_unbuilt          whether the name of one stands in an expression
-use Rattle.std.specs.Prelude.{Bool, true, false, ◌||◌, Some, None}
+use Rattle.std.specs.Prelude.{Bool, false, ◌||◌, Some, None}
 use Rattle.expr_tree.specs.Tree.{Tree, Trees, integer, string, symbol, normal, nil, cons}
 use Rattle.expr_tree.specs.declared.sym.Sym.{Sym}
 use Rattle.semantics.specs.declared.builtin.Builtin.{Builtin}
 use Rattle.semantics.specs.Names.{Names, role_of}
+use Rattle.row_kinds.specs.Kinds as kinds
 
 abbrev pub is_unbuilt : Builtin → Bool
-is_unbuilt Builtin.Throw = true
-is_unbuilt Builtin.Catch = true
-is_unbuilt Builtin.ParallelSubmit = true
-is_unbuilt Builtin.ParallelTable = true
-is_unbuilt Builtin.ParallelDo = true
-is_unbuilt Builtin.ParallelSum = true
-is_unbuilt Builtin.ParallelEvaluate = true
-is_unbuilt Builtin.CriticalSection = true
-is_unbuilt Builtin.DistributeDefinitions = true
-is_unbuilt Builtin.SetSharedVariable = true
-is_unbuilt Builtin.SetSharedFunction = true
-is_unbuilt Builtin.ParallelMap = true
-is_unbuilt Builtin.ParallelCombine = true
-is_unbuilt Builtin.ParallelTry = true
-is_unbuilt Builtin.WaitAll = true
-is_unbuilt Builtin.WaitNext = true
-is_unbuilt Builtin.Print = true
-is_unbuilt Builtin.Quit = true
-is_unbuilt Builtin.KernelID = true
-is_unbuilt Builtin.KernelCount = true
-is_unbuilt _ = false
+is_unbuilt row = kinds.is_unbuilt row
 
 abbrev pub names_unbuilt : Names → Sym → Bool
 names_unbuilt names s = elim (role_of names s) [ None ↦ false | Some row ↦ is_unbuilt row ]
