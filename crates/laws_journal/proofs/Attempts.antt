@@ -96,7 +96,7 @@ first_may n k id (q ∷ qs) h = go (is_waiting q.status && may_go q.item k) refl
 take_guard : (set : Setup) (c : Core) (h : Handed) (k i : ℕ) → permitted set c h k (Event.Take i) ≡ true → is_id i (first_for 1 c.items k) ≡ true
 take_guard set c h k i ok = (both _ _ ok).1
 
-taken_may : (set : Setup) (c : Core) (h : Handed) (k i m : ℕ) (q : Queued) → permitted set c h k (Event.Take i) ≡ true → nth c.items m ≡ Some q → i ≡ suc m → (is_waiting q.status ≡ true) × (may_go q.item k ≡ true)
+pub taken_may : (set : Setup) (c : Core) (h : Handed) (k i m : ℕ) (q : Queued) → permitted set c h k (Event.Take i) ≡ true → nth c.items m ≡ Some q → i ≡ suc m → (is_waiting q.status ≡ true) × (may_go q.item k ≡ true)
 taken_may set c h k i m q ok at e =
     let r = first_may 1 k i c.items (take_guard set c h k i ok) in
     let number = r.1 in
@@ -125,7 +125,7 @@ there_still m [] x q e = absurd (none≢some e)
 there_still zero (y ∷ qs) x q e = e
 there_still (suc m) (y ∷ qs) x q e = there_still m qs x q e
 
-submitted : (h : Handed) (qs : List Queued) (m : ℕ) (q : Queued) → nth qs m ≡ Some q → nth (with_item h qs) m ≡ Some q
+pub submitted : (h : Handed) (qs : List Queued) (m : ℕ) (q : Queued) → nth qs m ≡ Some q → nth (with_item h qs) m ≡ Some q
 submitted Handed.Nothing qs m q e = e
 submitted (Handed.Given item b) qs m q e = there_still m qs _ q e
 submitted (Handed.Lent d) qs m q e = e
@@ -135,7 +135,7 @@ is_submit : Event → Bool
 is_submit (Event.Submit id) = true
 is_submit _ = false
 
-changed : (set : Setup) (c : Core) (j : ℕ) (e : Event) (m : ℕ) (q : Queued) → nth c.items m ≡ Some q → nth (each_from 1 (queued_after set c.wait j e) c.items) m ≡ Some (queued_after set c.wait j e (suc m) q)
+pub changed : (set : Setup) (c : Core) (j : ℕ) (e : Event) (m : ℕ) (q : Queued) → nth c.items m ≡ Some q → nth (each_from 1 (queued_after set c.wait j e) c.items) m ≡ Some (queued_after set c.wait j e (suc m) q)
 changed set c j e m q at = each_nth 1 m (queued_after set c.wait j e) c.items ∙ ap (λ o. elim o [ None ↦ None | Some x ↦ Some (queued_after set c.wait j e (1 + m) x) ]) at ∙ ap (λ n. Some (queued_after set c.wait j e n q)) (omega arith)
 
 pub after_entry : (set : Setup) (c : Core) (h : Handed) (j : ℕ) (e : Event) (m : ℕ) (q : Queued) → nth c.items m ≡ Some q → status_in (nth (items_after set c h j e) m) ≡ Some (status_after set c.wait j e (suc m) q.item q.status)

@@ -107,7 +107,7 @@ before_entry set c h j k (Event.Take i) m q doers ok at pin s = go (i == suc m) 
         inr (
           s',
           λ _ same.
-          true≢false (sym (ap is_some (doers.runners m k (ap status_in at ∙ ap Some s'))) ∙ (ap (has_attempt c) (sym same) ∙ is_not (has_attempt c j) (both _ _ (both _ _ (both _ _ ok).0).0).1)),
+              true≢false (sym (ap is_some (doers.runners m k (ap status_in at ∙ ap Some s'))) ∙ (ap (has_attempt c) (sym same) ∙ is_not (has_attempt c j) (both _ _ (both _ _ (both _ _ ok).0).0).1)),
         )
 before_entry set c h j k (Event.Deliver i v) m q doers ok at pin s = go (i == suc m) refl s
   where
@@ -117,8 +117,8 @@ before_entry set c h j k (Event.Deliver i v) m q doers ok at pin s = go (i == su
         inr (
           s',
           λ _ same.
-          apart i (suc m) b
-          (eqb-true i (suc m) (subst (λ o. is_id i o ≡ true) (ap (attempt_of c) same ∙ doers.runners m k (ap status_in at ∙ ap Some s')) (both _ _ (both _ _ ok).0).0)),
+              apart i (suc m) b
+              (eqb-true i (suc m) (subst (λ o. is_id i o ≡ true) (ap (attempt_of c) same ∙ doers.runners m k (ap status_in at ∙ ap Some s')) (both _ _ (both _ _ ok).0).0)),
         )
 before_entry set c h j k (Event.Lose cause) m q doers ok at pin s = let t = lost_ran set j k q.item q.status pin s in inr (t.0, λ _. t.1)
 before_entry set c h j k Event.Resume m q doers ok at pin s = go (drops c.wait (suc m)) s

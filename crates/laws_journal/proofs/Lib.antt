@@ -23,3 +23,4 @@ mod Emptied
 mod Waiting
 mod Masters
 mod Doers
+mod Pins

@@ -7,12 +7,13 @@
 --     OwnCounted, LivesUnlessLost   a kernel's count is that of its entries; it lives unless its view is lost
 --     StretchByStretch              a journal that grows by entries: the core and a kernel's view go on from where they were
 --     DoersAgree                    an item that runs is run by its kernel; a kernel that does not live has no attempt
+--     PinsLive                      a pinned item that waits or runs has a living kernel
 --     WaitLocksAgree                in a wait kernel 0 holds locks where the stand-in's attempt is inside a section
 use Rattle.std.specs.Prelude.{◌≡◌, ℕ, suc, ◌≤◌, List, [], ◌∷◌, ◌++◌, map, length, Bool, true, false, ◌&&◌, not, ◌==◌, Some, None}
 use Rattle.journal.specs.Places.{is_some}
 use Rattle.journal.specs.Closure.{Bundle}
 use Rattle.journal.specs.Entry.{Event, Item, Handed, Posted}
-use Rattle.journal.specs.Core.{Setup, Core, Queued, Status, status_of, attempt_of, lives, holds_nothing, allowed, effect, replay, replay_from}
+use Rattle.journal.specs.Core.{Setup, Core, Queued, Status, item_at, status_of, attempt_of, lives, holds_nothing, allowed, effect, replay, replay_from}
 use Rattle.journal.specs.Follow.{Plan, View, is_lost, with_handed, watch, watch_from, kernel_run}
 use Rattle.journal.specs.Run.{is_resume}
 use Rattle.laws_journal.specs.Laws.{StandsIn}
@@ -98,3 +99,13 @@ abbrev pub DoersAgree : Type 0
 DoersAgree =
     (set : Setup) (ps : List Posted) (c : Core) → replay set ps ≡ Some c
     → ((id k : ℕ) → status_of c id ≡ Some (Status.Running k) → attempt_of c k ≡ Some id) × ((k : ℕ) → lives c (suc k) ≡ false → attempt_of c (suc k) ≡ None)
+
+-- an item that is pinned to a kernel and has no result yet
+abbrev pub is_open_pin : Item → Status → ℕ → Bool
+is_open_pin (Item.Pinned i e) (Status.Waiting) j = i == j
+is_open_pin (Item.Pinned i e) (Status.Running k) j = i == j
+is_open_pin _ _ j = false
+
+abbrev pub PinsLive : Type 0
+PinsLive =
+    (set : Setup) (ps : List Posted) (c : Core) → replay set ps ≡ Some c → (id : ℕ) (q : Queued) (j : ℕ) → item_at c id ≡ Some q → is_open_pin q.item q.status j ≡ true → lives c j ≡ true

@@ -6,7 +6,7 @@
 ghost use Rattle.laws_journal.specs.Laws.{SectionsApart, OneResult, AllHaveResults, RunGrows, LegalReplays, OneJournal, EntryByEntry, AttemptsAgree, PhaseIsAttempt, ClosureIsLeast, CutsPartition, AttemptsOrdered, LocksAgree, QuietComputed, QuietNamedComputed};
 ghost use Rattle.laws_journal.specs.Masters.{CallsKeepSections, CellsKeepSections};
 ghost use Rattle.laws_journal.specs.Runs.{BegunReplays, CellsJoin, LegalComposed, LegalStarted, RunPosts, UsedUpStays};
-ghost use Rattle.laws_journal.specs.Views.{DoersAgree, HandedNeeded, ItemsAgree, ItemsStay, LivesUnlessLost, OthersPass, OwnCounted, StretchByStretch, WaitLocksAgree};
+ghost use Rattle.laws_journal.specs.Views.{DoersAgree, HandedNeeded, ItemsAgree, ItemsStay, LivesUnlessLost, OthersPass, OwnCounted, PinsLive, StretchByStretch, WaitLocksAgree};
 
 /// Two sections that share a lock never overlap, in whatever is a replay.
 pub fn sections_never_overlap()
@@ -150,4 +150,9 @@ pub fn masters_section_is_held_by_kernel_0()
 /// An item that runs is run by its kernel, and a kernel that does not live has no attempt.
 pub fn items_that_run_are_run()
     ensures law { DoersAgree }
+{}
+
+/// A pinned item that waits or runs has a living kernel.
+pub fn pinned_items_have_living_kernels()
+    ensures law { PinsLive }
 {}

@@ -233,7 +233,7 @@ module _ (texts : List Text) (steps : ℕ) where
       let taken : run_along set readings journal (length readings) ≡ Goes (at (first_walk set journal) r.after r.lines) = ap (λ cs. run_cells set 1 cs (at (first_walk set journal) empty [])) (all_taken readings) ∙ r.goes in (
         so (legal set [] readings journal) (ap (λ o. Run.kernels_run set [] (given (Run.arrived (going o (λ x. closes set x.walk))) (λ w. Some w.posted))) taken),
         ap (λ o. given (given (Run.arrived o) (λ x. Some (x.lines ++ []))) (λ ls. Some (written line ls))) taken
-        ∙ ap Some (ap (written line) (append-nil r.lines) ∙ r.writes),
+            ∙ ap Some (ap (written line) (append-nil r.lines) ∙ r.writes),
       )
 
 pub alone_is_run : AloneIsRun
