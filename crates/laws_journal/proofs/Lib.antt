@@ -24,3 +24,4 @@ mod Waiting
 mod Masters
 mod Doers
 mod Pins
+mod Finds

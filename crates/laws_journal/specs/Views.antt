@@ -8,12 +8,13 @@
 --     StretchByStretch              a journal that grows by entries: the core and a kernel's view go on from where they were
 --     DoersAgree                    an item that runs is run by its kernel; a kernel that does not live has no attempt
 --     PinsLive                      a pinned item that waits or runs has a living kernel
+--     StandInFinds                  where the stand-in may take an item, one waits for it
 --     WaitLocksAgree                in a wait kernel 0 holds locks where the stand-in's attempt is inside a section
 use Rattle.std.specs.Prelude.{◌≡◌, ℕ, suc, ◌≤◌, List, [], ◌∷◌, ◌++◌, map, length, Bool, true, false, ◌&&◌, not, ◌==◌, Some, None}
 use Rattle.journal.specs.Places.{is_some}
 use Rattle.journal.specs.Closure.{Bundle}
-use Rattle.journal.specs.Entry.{Event, Item, Handed, Posted}
-use Rattle.journal.specs.Core.{Setup, Core, Queued, Status, item_at, status_of, attempt_of, lives, holds_nothing, allowed, effect, replay, replay_from}
+use Rattle.journal.specs.Entry.{Event, Wait, Item, Handed, Posted}
+use Rattle.journal.specs.Core.{Setup, Core, Queued, Status, count, condition_holds, first_for, item_at, status_of, attempt_of, lives, holds_nothing, allowed, effect, replay, replay_from}
 use Rattle.journal.specs.Follow.{Plan, View, is_lost, with_handed, watch, watch_from, kernel_run}
 use Rattle.journal.specs.Run.{is_resume}
 use Rattle.laws_journal.specs.Laws.{StandsIn}
@@ -109,3 +110,13 @@ is_open_pin _ _ j = false
 abbrev pub PinsLive : Type 0
 PinsLive =
     (set : Setup) (ps : List Posted) (c : Core) → replay set ps ≡ Some c → (id : ℕ) (q : Queued) (j : ℕ) → item_at c id ≡ Some q → is_open_pin q.item q.status j ≡ true → lives c j ≡ true
+
+abbrev pub is_for_items : Wait → Bool
+is_for_items (Wait.Locks ls) = false
+is_for_items _ = true
+
+-- no kernel lives, the stand-in has no attempt, and the condition of a wait for items is false
+abbrev pub StandInFinds : Type 0
+StandInFinds =
+    (set : Setup) (ps : List Posted) (c : Core) (w : Wait) → replay set ps ≡ Some c → c.wait ≡ Some w → is_for_items w ≡ true → condition_holds set.names c ≡ false → count c ≡ 0 → attempt_of c 0 ≡ None
+    → is_some (first_for 1 c.items 0) ≡ true

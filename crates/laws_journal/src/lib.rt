@@ -6,7 +6,7 @@
 ghost use Rattle.laws_journal.specs.Laws.{SectionsApart, OneResult, AllHaveResults, RunGrows, LegalReplays, OneJournal, EntryByEntry, AttemptsAgree, PhaseIsAttempt, ClosureIsLeast, CutsPartition, AttemptsOrdered, LocksAgree, QuietComputed, QuietNamedComputed};
 ghost use Rattle.laws_journal.specs.Masters.{CallsKeepSections, CellsKeepSections};
 ghost use Rattle.laws_journal.specs.Runs.{BegunReplays, CellsJoin, LegalComposed, LegalStarted, RunPosts, UsedUpStays};
-ghost use Rattle.laws_journal.specs.Views.{DoersAgree, HandedNeeded, ItemsAgree, ItemsStay, LivesUnlessLost, OthersPass, OwnCounted, PinsLive, StretchByStretch, WaitLocksAgree};
+ghost use Rattle.laws_journal.specs.Views.{DoersAgree, HandedNeeded, ItemsAgree, ItemsStay, LivesUnlessLost, OthersPass, OwnCounted, PinsLive, StandInFinds, StretchByStretch, WaitLocksAgree};
 
 /// Two sections that share a lock never overlap, in whatever is a replay.
 pub fn sections_never_overlap()
@@ -155,4 +155,9 @@ pub fn items_that_run_are_run()
 /// A pinned item that waits or runs has a living kernel.
 pub fn pinned_items_have_living_kernels()
     ensures law { PinsLive }
+{}
+
+/// Where no kernel lives and a wait for items goes on, the stand-in finds an item that waits for it.
+pub fn the_stand_in_finds_an_item()
+    ensures law { StandInFinds }
 {}

@@ -4,7 +4,7 @@ use mathlib.Core.List.{reverse_aux, reverse-reverse}
 use Rattle.expr_tree.specs.declared.sym.Sym.{Sym}
 use Rattle.expr_tree.specs.Tree.{Tree}
 use Rattle.expr_tree.specs.Substitution.{among}
-use Rattle.semantics.specs.Names.{Names, IsNames}
+use Rattle.semantics.specs.Names.{IsNames}
 use Rattle.semantics.specs.Definitions.{Definitions}
 use Rattle.semantics.specs.Program.{Mode}
 use Rattle.semantics.specs.Play.{End, Play, Over, Calls, whole}

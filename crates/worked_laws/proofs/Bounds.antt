@@ -1,5 +1,5 @@
 -- Looser limits; modes and kernel numbers.
-use Rattle.std.proofs.Common.{◌≡◌, ℕ, refl, true, false, [], ◌∷◌}
+use Rattle.std.proofs.Common.{◌≡◌, ℕ, refl, true, false, []}
 use Rattle.expr_tree.specs.Tree.{Tree}
 use Rattle.expr_tree.specs.declared.limits.Limits.{Limits}
 use Rattle.expr_tree.specs.declared.limits.Stop.{Stop}
