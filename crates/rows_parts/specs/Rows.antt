@@ -1,11 +1,8 @@
--- The rows of this crate.
+-- The rows of parts, by their kind.
 --     is_of_parts
-use Rattle.std.specs.Prelude.{Bool, true, false}
+use Rattle.std.specs.Prelude.{Bool}
 use Rattle.semantics.specs.declared.builtin.Builtin.{Builtin}
+use Rattle.row_kinds.specs.Kinds as kinds
 
 abbrev pub is_of_parts : Builtin → Bool
-is_of_parts Builtin.Part = true
-is_of_parts Builtin.Partition = true
-is_of_parts Builtin.Transpose = true
-is_of_parts Builtin.Range = true
-is_of_parts _ = false
+is_of_parts row = kinds.is_of_parts row

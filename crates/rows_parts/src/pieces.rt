@@ -7,14 +7,12 @@ ghost use Rattle.semantics.specs.Worked.{Gives};
 ghost use Rattle.builtin_names.specs.Results.{Works};
 ghost use Rattle.rows_parts.specs.Cut.{cut};
 
-use crate::answer::{copies, under};
+use crate::answer::under;
 use builtin_names::Fault;
+use expr_lists::{TOO_MANY, copies, nodes_of_all};
 use expr_tree::{Built, Expr, Exprs, MAX_SIZE, Node};
 use item_list::Items;
 use std::alloc::Global;
-
-/// One atom more than an expression may have.
-const TOO_MANY: u64 = MAX_SIZE + 1;
 
 /// Pieces of so many elements under a head. Elements that are left over at the end are dropped.
 #[tactic(auto, using(crate::proofs::Cuts::cut_steps))]
@@ -30,17 +28,6 @@ fn pieces(alloc: Global, head: &Expr, items: &[Expr], length: usize) -> Result<E
         place += length;
     }
     Ok(made)
-}
-
-#[tactic(auto, using(expr_tree::proofs::Callers::tree_steps))]
-fn nodes_of_all(items: &[Expr]) -> u64
-    ensures { result ≡ min (sizes (trees items.now)) 4000001 }
-{
-    let mut total = 0;
-    for item in items {
-        total = (total + item.size()).min(TOO_MANY);
-    }
-    total
 }
 
 /// The size of the pieces, counted as far as one more than an expression may have.

@@ -1,5 +1,5 @@
 use Rattle.std.proofs.Common.{◌≡◌, take}
-use Rattle.rows_parts.proofs.answer.copies.Given as goal
+use Rattle.expr_lists.proofs.lists.copies.Given as goal
 
 abbrev pub invariant-loop-item : goal.invariant-loop-item
 invariant-loop-item l = l.made ≡ take l.item-index l.items

@@ -1,6 +1,6 @@
 use Rattle.std.proofs.Common.{◌≡◌, ◌+◌, ◌≤◌, min, drop}
 use Rattle.expr_tree.specs.Tree.{sizes, trees}
-use Rattle.rows_parts.proofs.pieces.nodes_of_all.Given as goal
+use Rattle.expr_lists.proofs.lists.nodes_of_all.Given as goal
 
 abbrev pub invariant-loop-item : goal.invariant-loop-item
 invariant-loop-item l = record {
