@@ -1,8 +1,10 @@
-pub mod Joins
 pub mod KindForms
+pub mod Extents
+pub mod Windows
 pub mod Complete
 pub mod Places
 pub mod Steps
 pub mod Ways
+pub mod Filling
 pub mod Stacks
 pub mod Told

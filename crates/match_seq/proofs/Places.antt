@@ -5,7 +5,7 @@ use Rattle.expr_tree.specs.Order.{same}
 use Rattle.semantics.specs.Match.{same_run, have_head}
 use Rattle.expr_tree.proofs.Callers.{tree_steps}
 use Rattle.match_seq.specs.declared.constructs.Constructs.{Constructs}
-use Rattle.match_seq.specs.Search.{second_is_single, second_is_short}
+use Rattle.match_seq.specs.Search.{second_is_single, second_extent, any_number}
 
 pub at_some : (xs : List Tree) (i : ℕ) (x : Tree) → slice_get xs i ≡ Some x → trees (drop i xs) ≡ cons x (trees (drop (i + 1) xs))
 at_some [] i x e = absurd (cc)
@@ -47,9 +47,9 @@ second_single-few cs [] few = refl
 second_single-few cs (x ∷ []) few = refl
 second_single-few cs (x ∷ y ∷ xs) few = absurd (omega (arith, few))
 
-pub second_short-few : (cs : Constructs) (xs : List Tree) → length xs < 2 → second_is_short cs (trees xs) ≡ false
-second_short-few cs [] few = refl
-second_short-few cs (x ∷ []) few = refl
-second_short-few cs (x ∷ y ∷ xs) few = absurd (omega (arith, few))
+pub second_extent-few : (cs : Constructs) (xs : List Tree) → length xs < 2 → second_extent cs (trees xs) ≡ any_number
+second_extent-few cs [] few = refl
+second_extent-few cs (x ∷ []) few = refl
+second_extent-few cs (x ∷ y ∷ xs) few = absurd (omega (arith, few))
 
-pub ruleset item_steps = (tree_steps, second_single-few, second_short-few)
+pub ruleset item_steps = (tree_steps, second_single-few, second_extent-few)

@@ -2,7 +2,7 @@
 --     Search                a search that has ended, with or without an answer, or that goes on, in one way or in two
 --     answers, steps        its answers, from left to right; the number of its steps
 --     find                  the search of a pattern in a run; what was found so far goes on with `next`
-use Rattle.std.specs.Prelude.{ℕ, zero, suc, ◌+◌, List, [], ◌∷◌, ◌++◌, map, length, Bool, true, false, ◌&&◌, ◌==◌, ltb, Option, None, Some, if◌then◌else◌}
+use Rattle.std.specs.Prelude.{ℕ, zero, suc, ◌+◌, ◌-◌, min, max, List, [], ◌∷◌, ◌++◌, map, length, take, drop, Bool, true, false, ◌&&◌, ◌==◌, ltb, Option, None, Some, if◌then◌else◌}
 use Rattle.expr_tree.specs.declared.sym.Sym.{Sym}
 use Rattle.expr_tree.specs.Tree.{Tree, integer, string, symbol, normal, Trees, nil, cons, elements, call, count}
 use Rattle.expr_tree.specs.Substitution.{value_of}
@@ -10,6 +10,7 @@ use Rattle.semantics.specs.Match.{Guard, Test, Cond, Found, Matching, same_run, 
 use Rattle.match_seq.specs.declared.constructs.Constructs.{Constructs}
 use Rattle.match_seq.specs.declared.constructs.Form.{Form}
 use Rattle.match_seq.specs.declared.constructs.Form.TheVariants as form
+use Rattle.match_seq.specs.declared.extent.Extent.{Extent}
 use Rattle.match_seq.specs.Forms.{form_of}
 
 pub data Search : Type 0 where
@@ -75,33 +76,49 @@ abbrev mutual
   second_is_single constructs nil = false
   second_is_single constructs (cons p ps) = first_is_single constructs ps
 
--- whether a pattern takes no run of two or more, as its outermost forms tell
-abbrev pub short_form : Form → Bool → Bool → Bool
-short_form (form.One) first second = true
-short_form (form.OneOf) first second = true
-short_form (form.Named) first second = second
-short_form (form.Tested) first second = first
-short_form (form.Conditioned) first second = first
-short_form (form.Held) first second = first
-short_form (form.Verbatim) first second = true
-short_form (form.Ordinary) first second = true
-short_form _ first second = false
+-- one element, and no other number of them
+abbrev pub exactly_one : Extent
+exactly_one = record { fills = true; short = true }
+
+-- any number of elements
+abbrev pub any_number : Extent
+any_number = record { fills = false; short = false }
+
+abbrev pub both : Extent → Extent → Extent
+both a b = record { fills = a.fills && b.fills; short = a.short && b.short }
+
+-- how many elements a pattern can take, as its outermost forms tell; from those of its first, its second and all of its items
+abbrev pub extent_form : Form → Extent → Extent → Extent → Extent
+extent_form (form.Some) first second all = record { fills = true; short = false }
+extent_form (form.SomeOf) first second all = record { fills = true; short = false }
+extent_form (form.Any) first second all = any_number
+extent_form (form.AnyOf) first second all = any_number
+extent_form (form.Named) first second all = second
+extent_form (form.Tested) first second all = first
+extent_form (form.Conditioned) first second all = first
+extent_form (form.Alternatives) first second all = all
+extent_form (form.Held) first second all = first
+extent_form _ first second all = exactly_one
 
 abbrev mutual
-  pub is_short : Constructs → Tree → Bool
-  is_short constructs (integer n) = true
-  is_short constructs (string t) = true
-  is_short constructs (symbol s) = true
-  is_short constructs (normal h ps) =
-      short_form (form_of constructs h (count ps)) (first_is_short constructs ps) (second_is_short constructs ps)
+  pub extent : Constructs → Tree → Extent
+  extent constructs (integer n) = exactly_one
+  extent constructs (string t) = exactly_one
+  extent constructs (symbol s) = exactly_one
+  extent constructs (normal h ps) =
+      extent_form (form_of constructs h (count ps)) (first_extent constructs ps) (second_extent constructs ps) (all_extent constructs ps)
 
-  pub first_is_short : Constructs → Trees → Bool
-  first_is_short constructs nil = false
-  first_is_short constructs (cons p ps) = is_short constructs p
+  pub first_extent : Constructs → Trees → Extent
+  first_extent constructs nil = any_number
+  first_extent constructs (cons p ps) = extent constructs p
 
-  pub second_is_short : Constructs → Trees → Bool
-  second_is_short constructs nil = false
-  second_is_short constructs (cons p ps) = first_is_short constructs ps
+  pub second_extent : Constructs → Trees → Extent
+  second_extent constructs nil = any_number
+  second_extent constructs (cons p ps) = first_extent constructs ps
+
+  pub all_extent : Constructs → Trees → Extent
+  all_extent constructs nil = exactly_one
+  all_extent constructs (cons p ps) = both (extent constructs p) (all_extent constructs ps)
 
 -- under Flat a run of several elements is wrapped in the head for a single blank
 abbrev pub wrapped : Bool → Tree → List Tree → List Tree
@@ -131,25 +148,28 @@ find_runs fit zero taken es = step (fit taken es)
 find_runs fit (suc more) taken [] = step (fit taken [])
 find_runs fit (suc more) taken (e ∷ es) = fork (fit taken (e ∷ es)) (find_runs fit more (taken ++ e ∷ []) es)
 
--- the sub-lists of one size
+-- the sub-lists of one size: none where fewer elements are left, and one where as many are
 abbrev pub find_choices : Use → ℕ → List Tree → List Tree → List Tree → Search
 find_choices fit zero taken left es = step (fit taken (left ++ es))
 find_choices fit (suc n) taken left [] = step dead
 find_choices fit (suc n) taken left (e ∷ es) =
-    fork (find_choices fit n (taken ++ e ∷ []) left es) (find_choices fit (suc n) taken (left ++ e ∷ []) es)
+    if ltb (length es) n then step dead
+    else if length es == n then step (fit (taken ++ e ∷ es) left)
+    else fork (find_choices fit n (taken ++ e ∷ []) left es) (find_choices fit (suc n) taken (left ++ e ∷ []) es)
 
 -- the sub-lists of one size, and of so many sizes above it
 abbrev pub find_sizes : Use → ℕ → ℕ → List Tree → Search
 find_sizes fit size zero es = step (find_choices fit size [] [] es)
 find_sizes fit size (suc more) es = fork (find_choices fit size [] [] es) (find_sizes fit (suc size) more es)
 
--- the greatest number of elements that a run needs to have, which is 1 for a short pattern
-abbrev pub most : Bool → List Tree → ℕ
-most short es = if short then 1 else length es
+-- the runs or sub-lists of so many elements, and of so many more
+abbrev pub find_ways : Bool → ℕ → ℕ → Use → List Tree → Search
+find_ways true least more fit es = find_sizes fit least more es
+find_ways false least more fit es = find_runs fit more (take least es) (drop least es)
 
-abbrev pub find_ways : Bool → ℕ → Use → List Tree → Search
-find_ways true most fit es = find_sizes fit 0 most es
-find_ways false most fit es = find_runs fit most [] es
+-- those of a least number of elements up to a greatest
+abbrev pub find_within : Bool → ℕ → ℕ → Use → List Tree → Search
+find_within orderless least greatest fit es = if ltb greatest least then dead else find_ways orderless least (greatest - least) fit es
 
 -- what the first element pattern does with a run, where the others take what is left
 abbrev pub find_first : Bool → Tree → Part → (List Tree → Next → Next) → Next → Found → Use
@@ -158,16 +178,46 @@ find_first wrapping h p others next found run left = p.finder (wrapped wrapping 
 abbrev pub wraps : Constructs → Matching → Tree → Bool
 wraps constructs how p = how.flat && is_single constructs p
 
--- a single blank that takes a wrapped run is not short
-abbrev pub stays_short : Constructs → Matching → Tree → Bool
-stays_short constructs how p = if wraps constructs how p then false else is_short constructs p
+-- whether an element pattern takes one element at most, as none does that takes wrapped runs
+abbrev pub is_bounded : Constructs → Matching → Tree → Bool
+is_bounded constructs how p = if wraps constructs how p then false else (extent constructs p).short
+
+abbrev pub least_of : Extent → ℕ
+least_of extent = if extent.fills then 1 else 0
+
+-- the number of elements that patterns need together
+abbrev pub fewest : Constructs → Trees → ℕ
+fewest constructs nil = 0
+fewest constructs (cons p ps) = least_of (extent constructs p) + fewest constructs ps
+
+abbrev pub all_bounded : Constructs → Matching → Trees → Bool
+all_bounded constructs how nil = true
+all_bounded constructs how (cons p ps) = is_bounded constructs how p && all_bounded constructs how ps
+
+-- of so many elements, the least number that the first pattern can take so that the others can take what is left
+abbrev pub least_size : Constructs → Matching → Tree → Trees → ℕ → ℕ
+least_size constructs how p ps n = max (least_of (extent constructs p)) (if all_bounded constructs how ps then n - count ps else 0)
+
+-- the greatest number that it can take so that the others have what they need
+abbrev pub greatest_size : Constructs → Matching → Tree → Trees → ℕ → ℕ
+greatest_size constructs how p ps n = min (if is_bounded constructs how p then 1 else n) (n - fewest constructs ps)
+
+abbrev pub trees_of : List Part → Trees
+trees_of [] = nil
+trees_of (p ∷ ps) = cons p.tree (trees_of ps)
+
+-- no element patterns are left
+abbrev pub find_end : Finder
+find_end [] next found = step (next found)
+find_end (e ∷ es) next found = step dead
 
 -- element patterns are filled from left to right
 abbrev pub find_items : Constructs → Matching → Tree → List Part → Finder
-find_items constructs how h [] [] next found = step (next found)
-find_items constructs how h [] (e ∷ es) next found = step dead
+find_items constructs how h [] es next found = find_end es next found
 find_items constructs how h (p ∷ ps) es next found =
-    step (find_ways how.orderless (most (stays_short constructs how p.tree) es) (find_first (wraps constructs how p.tree) h p (find_items constructs how h ps) next found) es)
+    step
+    (find_within how.orderless (least_size constructs how p.tree (trees_of ps) (length es)) (greatest_size constructs how p.tree (trees_of ps) (length es))
+    (find_first (wraps constructs how p.tree) h p (find_items constructs how h ps) next found) es)
 
 abbrev pub find_normal : Constructs → Matching → Tree → Finder → List Part → Finder
 find_normal constructs how h head ps (normal g es ∷ []) next found =

@@ -85,6 +85,28 @@ impl Setting {
         Ok(Turn::One(made))
     }
 
+    /// All elements that come next are taken.
+    #[tactic(auto, using(crate::proofs::Ways::way_steps))]
+    fn all_taken(
+        &self,
+        alloc: Global,
+        level: &Level,
+        choice: Choice,
+        onward: Branch,
+    ) -> Result<Turn, AllocError>
+        ensures { IfOk result (λ t. after self.now t ≡ step (use_level self.now level.now (rest self.now onward) (found_of onward.found) (choice.taken ++ drop choice.at choice.elements) choice.left)) }
+    {
+        let Choice {
+            mut taken,
+            left,
+            elements,
+            at,
+        } = choice;
+        taken.append(back(alloc, &elements, at)?)?;
+        let made = self.used(alloc, level, taken, left, onward)?;
+        Ok(Turn::One(made))
+    }
+
     /// The branch that takes one element more, and the one that leaves it.
     fn forked(
         &self,
@@ -117,7 +139,13 @@ impl Setting {
         if size == 0 {
             return self.chosen(alloc, &level, choice, onward);
         }
-        let _count = choice.elements.len();
+        let there = choice.elements.len().saturating_sub(choice.at);
+        if there < size {
+            return Ok(Turn::One(None));
+        }
+        if there == size {
+            return self.all_taken(alloc, &level, choice, onward);
+        }
         let Some(next) = choice.elements.get(choice.at) else {
             return Ok(Turn::One(None));
         };

@@ -1,12 +1,14 @@
 // Element patterns are filled with elements.
-ghost use Rattle.std.specs.Prelude.{◌≡◌, ◌∷◌, [], ◌&&◌, ltb, length, take, drop, IfOk, if◌then◌else◌};
-ghost use Rattle.match_seq.specs.Search.{wrapped, wraps, stays_short};
-ghost use Rattle.match_seq.specs.Goals.{found_of, matching_of, how_in, use_level, reach, rest, branch_or_dead, after};
+ghost use Rattle.std.specs.Prelude.{◌≡◌, ◌∷◌, [], take, drop, IfOk};
+ghost use Rattle.match_seq.specs.Search.{wrapped, step, find_end, find_within};
+ghost use Rattle.match_seq.specs.Goals.{found_of, how_in, use_level, reach, rest, branch_or_dead, after};
 ghost use Rattle.match_seq.specs.declared.goal.Goal.TheVariants as goal;
 
+use crate::extent::Window;
 use crate::goal::{Branch, Goal, Level, Turn};
-use crate::setting::{How, Setting, head_in};
-use expr_tree::{Expr, Exprs, copy_items};
+use crate::setting::{Setting, head_in};
+use crate::shapes::first_of;
+use expr_tree::{Expr, Exprs, Node, copy_items};
 use item_list::Items;
 use std::alloc::{AllocError, Global};
 
@@ -58,26 +60,6 @@ fn wrapped(alloc: Global, wraps: bool, head: &Expr, run: Exprs) -> Result<Exprs,
 }
 
 impl Setting {
-    fn wraps(&self, how: How, pattern: &Expr) -> bool
-        ensures { result ≡ wraps self.now.constructs (matching_of how) pattern.now }
-    {
-        how.flat && self.constructs.is_single(pattern)
-    }
-
-    /// The greatest number of elements that a pattern needs to be tried with.
-    fn most(&self, how: How, pattern: &Expr, count: usize) -> usize
-        ensures { result ≡ if stays_short self.now.constructs (matching_of how) pattern.now then 1 else count }
-    {
-        if self.wraps(how, pattern) {
-            return count;
-        }
-        if self.constructs.is_short(pattern) {
-            1
-        } else {
-            count
-        }
-    }
-
     /// The first element pattern takes a run, and the others what is left.
     #[tactic(auto, using(crate::proofs::Ways::fill_steps))]
     pub(crate) fn used(
@@ -93,7 +75,7 @@ impl Setting {
         let Some(first) = level.first() else {
             return Ok(None);
         };
-        let wraps = self.wraps(self.how_in(&level.pattern), first);
+        let wraps = self.constructs.wraps(self.how_in(&level.pattern), first);
         let run = wrapped(alloc, wraps, head_in(&level.pattern), run)?;
         let others = Level {
             pattern: level.pattern.copy(alloc)?,
@@ -103,6 +85,41 @@ impl Setting {
         Ok(Some(self.before(Goal::Take(first.copy(alloc)?, run), onward)?))
     }
 
+    /// There are no element patterns left.
+    #[tactic(auto, using(crate::proofs::Ways::fill_steps))]
+    fn emptied(&self, elements: &Exprs, onward: Branch) -> Turn
+        ensures { after self.now result ≡ find_end elements.now (rest self.now onward) (found_of onward.found) }
+    {
+        if elements.is_empty() {
+            Turn::One(Some(onward))
+        } else {
+            Turn::One(None)
+        }
+    }
+
+    /// The first element pattern takes a number of elements within a window.
+    #[tactic(auto, using(crate::proofs::Ways::fill_steps))]
+    fn within(
+        &self,
+        level: Level,
+        window: Window,
+        elements: Exprs,
+        onward: Branch,
+    ) -> Result<Turn, AllocError>
+        ensures { IfOk result (λ t. after self.now t ≡ step (find_within (how_in self.now level.pattern).orderless window.least window.greatest (use_level self.now level (rest self.now onward) (found_of onward.found)) elements)) }
+    {
+        let Window { least, greatest } = window;
+        if greatest < least {
+            return Ok(Turn::One(None));
+        }
+        if self.how_in(&level.pattern).orderless {
+            self.one(Goal::Sizes(level, least, greatest, elements), onward)
+        } else {
+            self.one(Goal::Runs(level, least, greatest, elements), onward)
+        }
+    }
+
+    /// The element patterns of a level are filled with elements.
     #[tactic(auto, using(crate::proofs::Ways::fill_steps))]
     pub(crate) fn fill(
         &self,
@@ -112,19 +129,18 @@ impl Setting {
     ) -> Result<Turn, AllocError>
         ensures { IfOk result (λ t. after self.now t ≡ reach self.now (goal.Fill level elements) (rest self.now onward) (found_of onward.found)) }
     {
-        let Some(first) = level.first() else {
-            if elements.is_empty() {
-                return Ok(Turn::One(Some(onward)));
-            }
-            return Ok(Turn::One(None));
+        let Node::Normal(_, patterns) = level.pattern.node() else {
+            return Ok(self.emptied(&elements, onward));
+        };
+        let Some(first) = first_of(patterns, level.at) else {
+            return Ok(self.emptied(&elements, onward));
         };
         let how = self.how_in(&level.pattern);
-        let most = self.most(how, first, elements.len());
-        if how.orderless {
-            self.one(Goal::Sizes(level, 0, most, elements), onward)
-        } else {
-            self.one(Goal::Runs(level, 0, most, elements), onward)
-        }
+        let patterns = patterns.as_slice();
+        let window = self
+            .constructs
+            .window(how, first, patterns, level.at + 1, elements.len());
+        self.within(level, window, elements, onward)
     }
 
     /// The first element pattern takes this many elements from the front.

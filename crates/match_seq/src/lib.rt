@@ -5,6 +5,7 @@
 
 mod choose;
 mod constructs;
+mod extent;
 mod fill;
 mod found;
 mod goal;

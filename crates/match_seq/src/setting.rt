@@ -1,7 +1,7 @@
 ghost use Rattle.std.specs.Prelude.{◌≡◌};
 ghost use Rattle.semantics.specs.Match.{how_of};
 ghost use Rattle.match_seq.specs.Goals.{matching_of, told, head_in, how_in};
-ghost use Rattle.match_seq.specs.Search.{is_single, is_short, wraps, stays_short};
+ghost use Rattle.match_seq.specs.Search.{is_single};
 
 use crate::constructs::{Constructs, Form};
 use expr_tree::{Expr, Node, Sym};
@@ -77,28 +77,6 @@ impl Constructs {
             },
             Form::Tested | Form::Conditioned | Form::Held => match items.as_slice() {
                 [first, ..] => self.is_single(first),
-                [] => false,
-            },
-            _ => false,
-        }
-    }
-
-    /// Whether a pattern takes no run of two or more, as its outermost forms tell.
-    #[tactic(auto, using(crate::proofs::Places::item_steps))]
-    pub(crate) fn is_short(&self, pattern: &Expr) -> bool
-        ensures { result ≡ is_short self.now pattern.now }
-    {
-        let Node::Normal(head, items) = pattern.node() else {
-            return true;
-        };
-        match self.form(head, items.len()) {
-            Form::One | Form::OneOf | Form::Verbatim | Form::Ordinary => true,
-            Form::Named => match items.as_slice() {
-                [_, second, ..] => self.is_short(second),
-                _ => false,
-            },
-            Form::Tested | Form::Conditioned | Form::Held => match items.as_slice() {
-                [first, ..] => self.is_short(first),
                 [] => false,
             },
             _ => false,
