@@ -11,8 +11,9 @@ ghost use Rattle.frames_control.specs.Turning.{left_fixed_point};
 
 use crate::countdown::{Countdown, MOST_TURNS};
 use crate::frame::Frame;
-use crate::moves::{Move, apply, one};
+use crate::moves::{Move, apply};
 use evaluation_steps::Halt;
+use expr_lists::one;
 use expr_tree::{Expr, Limits, Stop};
 use name_table::Names;
 use std::alloc::{AllocError, Global};

@@ -10,9 +10,10 @@ ghost use Rattle.frames_control.specs.Moving.{moving, IfAsks, Starts};
 ghost use Rattle.frames_control.specs.Turning.{left_fold};
 
 use crate::frame::Frame;
-use crate::moves::{Move, apply, two};
+use crate::moves::{Move, apply};
 use crate::stack::Stack;
 use evaluation_steps::Halt;
+use expr_lists::two;
 use expr_tree::{Expr, Limits, Node};
 use name_table::Names;
 use std::alloc::{AllocError, Global};

@@ -1,5 +1,5 @@
 //! What a machine does next.
-ghost use Rattle.std.specs.Prelude.{◌≡◌, ◌∷◌, [], Option, Some, IfOk};
+ghost use Rattle.std.specs.Prelude.{◌≡◌, Option, Some};
 ghost use Rattle.expr_tree.specs.Tree.{Tree};
 ghost use Rattle.semantics.specs.Program.{Prog};
 ghost use Rattle.semantics.specs.Control.{applied};
@@ -9,8 +9,7 @@ ghost use Rattle.frames_control.specs.Moving.{moving};
 
 use evaluation_steps::{Halt, checked};
 use expr_tree::{Expr, Exprs, Limits, Sym};
-use item_list::Items;
-use std::alloc::{AllocError, Global};
+use std::alloc::Global;
 
 /// A symbol with the value that it has while an expression is evaluated.
 #[derive(Drop)]
@@ -32,25 +31,6 @@ pub enum Move {
     Done(Expr),
     /// The result by its head and its elements.
     Build(Expr, Exprs),
-}
-
-/// A list of one expression.
-pub(crate) fn one(alloc: Global, e: Expr) -> Result<Exprs, AllocError>
-    ensures { IfOk result (λ items. items ≡ e ∷ []) }
-{
-    let mut items = Items::new(alloc);
-    items.push(e)?;
-    Ok(items)
-}
-
-/// A list of two expressions.
-pub(crate) fn two(alloc: Global, e: Expr, f: Expr) -> Result<Exprs, AllocError>
-    ensures { IfOk result (λ items. items ≡ e ∷ f ∷ []) }
-{
-    let mut items = Items::new(alloc);
-    items.push(e)?;
-    items.push(f)?;
-    Ok(items)
 }
 
 /// Asks for the value of a function at some elements, as a turn.

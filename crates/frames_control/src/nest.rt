@@ -11,8 +11,9 @@ ghost use Rattle.frames_control.specs.Turning.{left_nest};
 
 use crate::countdown::{Countdown, turns_of};
 use crate::frame::Frame;
-use crate::moves::{Move, apply, one};
+use crate::moves::{Move, apply};
 use evaluation_steps::Halt;
+use expr_lists::one;
 use expr_tree::{Expr, Limits};
 use name_table::Names;
 use std::alloc::{AllocError, Global};

@@ -11,10 +11,11 @@ ghost use Rattle.frames_control.specs.Turning.{left_nest_list, nests_list};
 
 use crate::countdown::{Countdown, turns_of};
 use crate::frame::Frame;
-use crate::moves::{Move, apply, one};
+use crate::moves::{Move, apply};
 use crate::stack::Stack;
 use builtin_names::name;
 use evaluation_steps::Halt;
+use expr_lists::one;
 use expr_tree::{Expr, Limits};
 use name_table::Names;
 use semantics::Builtin;

@@ -10,10 +10,11 @@ ghost use Rattle.frames_control.specs.Moving.{moving, IfAsks, Starts};
 ghost use Rattle.frames_control.specs.Turning.{left_select, without_last};
 
 use crate::frame::Frame;
-use crate::moves::{Move, apply, one};
+use crate::moves::{Move, apply};
 use crate::stack::Stack;
 use builtin_names::is_name;
 use evaluation_steps::Halt;
+use expr_lists::one;
 use expr_tree::{Expr, Limits, Node};
 use name_table::Names;
 use semantics::Builtin;

@@ -9,10 +9,11 @@ ghost use Rattle.frames_control.specs.Moving.{moving, IfAsks, Starts};
 ghost use Rattle.frames_control.specs.Choices.{left_which, tested};
 
 use crate::frame::Frame;
-use crate::moves::{Move, one};
+use crate::moves::Move;
 use crate::stack::Stack;
 use builtin_names::{is_name, name};
 use evaluation_steps::Halt;
+use expr_lists::one;
 use expr_tree::{Expr, Limits};
 use name_table::Names;
 use semantics::Builtin;

@@ -3,3 +3,4 @@ mod Rounding
 mod Common
 mod Growth
 mod Turns
+mod Progressing

@@ -1,3 +1,4 @@
 pub mod Exact
 pub mod Products
+pub mod Progressions
 pub mod Totals

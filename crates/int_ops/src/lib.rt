@@ -1,5 +1,6 @@
 //! Exact arithmetic on integers of 128 bits: each call gives the number of the mathematical function, and OutOfRange exactly where it
-//! does not fit. Sums and products are judged as a whole. It knows nothing of expressions.
+//! does not fit. Sums and products are judged as a whole. A `Progression` gives integers from a start by a step up to an end, one at a
+//! time, to the ends of 128 bits; ranges and iterators walk by it. It knows nothing of expressions.
 #![tactic(auto)]
 
 mod arithmetic;
@@ -8,6 +9,7 @@ mod divisors;
 mod out_of_range;
 mod powers;
 mod product;
+mod progression;
 mod sum;
 #[cfg(test)]
 mod tests;
@@ -18,4 +20,5 @@ pub use divisors::{common_divisor, gcd};
 pub use out_of_range::OutOfRange;
 pub use powers::{factorial, power};
 pub use product::Product;
+pub use progression::Progression;
 pub use sum::{Sum, total};

@@ -1,4 +1,4 @@
-use crate::{Product, Sum, power, quotient};
+use crate::{Product, Progression, Sum, power, quotient};
 use std::test::Fail;
 
 #[test]
@@ -21,5 +21,14 @@ fn sums_and_products_are_judged_as_a_whole(rt: HostRuntime) -> Result<(), Fail> 
     assert_eq!(rt; product.judged().ok(), None);
     product.multiply(-1);
     assert_eq!(rt; product.judged().ok(), Some(i128::MIN));
+    Ok(())
+}
+
+#[test]
+fn the_greatest_integer_is_the_last(rt: HostRuntime) -> Result<(), Fail> {
+    let mut numbers = Progression::new(i128::MAX - 2, i128::MAX, 2);
+    assert_eq!(rt; numbers.next(), Some(i128::MAX - 2));
+    assert_eq!(rt; numbers.next(), Some(i128::MAX));
+    assert_eq!(rt; numbers.next(), None);
     Ok(())
 }

@@ -1,5 +1,5 @@
 //! Do, Table and Sum as one machine: it asks for the parts of the iterator, and then for the body with each value in turn. Integers
-//! are walked by `number_walks`.
+//! are walked by a `Progression`.
 #![tactic(auto)]
 
 mod body;

@@ -19,10 +19,10 @@ use crate::walk::Walk;
 use builtin_names::{items_under, name};
 use expr_tree::{Expr, Exprs, Node, Sym};
 use frames_control::Stack;
+use int_ops::Progression;
 use kernel_defs::Defs;
 use machine_steps::{Move, Scene};
 use name_table::Names;
-use number_walks::Progression;
 use semantics::Builtin;
 use std::alloc::{AllocError, Global};
 

@@ -4,7 +4,7 @@ ghost use Rattle.machine_iterators.specs.Left.{values_in};
 
 use expr_tree::Expr;
 use frames_control::Stack;
-use number_walks::Progression;
+use int_ops::Progression;
 
 /// The values that are left of an iterator.
 #[derive(Drop)]

@@ -1,5 +1,5 @@
 //! The rows of the built-in table that find parts, cut lists into pieces, turn rows into columns and count, each a function of the
-//! row's elements. Ranges walk by `number_walks`.
+//! row's elements. Ranges walk by a `Progression`.
 #![tactic(auto)]
 
 mod answer;

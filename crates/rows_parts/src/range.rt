@@ -10,9 +10,9 @@ ghost use Rattle.semantics.specs.declared.builtin.Builtin.{Builtin};
 
 use builtin_names::{Fault, make};
 use expr_tree::{Expr, Exprs, MAX_SIZE, Node};
+use int_ops::Progression;
 use item_list::Items;
 use name_table::Names;
-use number_walks::Progression;
 use semantics::Builtin;
 use std::alloc::{AllocError, Global};
 

@@ -1,9 +1,9 @@
 use Rattle.std.proofs.Common.{◌≡◌, ◌∙◌, sym, ap, Option, Some, ℤ, FitsSigned, rules}
 use Rattle.std.specs.Int.{w128}
 use Rattle.std.proofs.lemmas.Int.{to_z-of_z}
-use Rattle.number_walks.specs.Walks.{walk}
-use Rattle.number_walks.proofs.Numbers.{takes}
-use Rattle.number_walks.proofs.progression.Progression.next.Goals as goal
+use Rattle.int_ops.specs.Progressions.{walk}
+use Rattle.int_ops.proofs.Progressing.{takes}
+use Rattle.int_ops.proofs.progression.Progression.next.Goals as goal
 
 pub returns : goal.returns
 returns c =

@@ -3,7 +3,7 @@ ghost use Rattle.std.specs.Prelude.{◌≡◌, ◌≤◌, ◌^◌, ◌∷◌, []
 ghost use Rattle.expr_tree.specs.Tree.{integer};
 ghost use Rattle.semantics.specs.Control.{steps_to};
 ghost use Rattle.semantics.specs.Lists.{count_up};
-ghost use Rattle.number_walks.specs.Walks.{reaches};
+ghost use Rattle.int_ops.specs.Progressions.{reaches};
 
 use std::marker::Model;
 
@@ -26,7 +26,7 @@ impl Model for Progression {
 
     ghost coded = { coded_list coded_tree };
 
-    ghost use Rattle.number_walks.specs.Walks.{walk};
+    ghost use Rattle.int_ops.specs.Progressions.{walk};
 
     ghost view = { λ p. walk p.next p.last p.by };
 }

@@ -7,7 +7,7 @@ use Rattle.std.proofs.Math.Nat.{add-div_left, div-eq_of_lt, div-le_self}
 use Rattle.expr_tree.specs.Tree.{Tree, integer}
 use Rattle.semantics.specs.Control.{steps_to}
 use Rattle.semantics.specs.Lists.{count_up}
-use Rattle.number_walks.specs.Walks.{reaches, walk}
+use Rattle.int_ops.specs.Progressions.{reaches, walk}
 
 steps_some : (a b d : ℤ) → reaches a b d ≡ true → steps_to a b d ≡ nat_abs (b -ℤ a) / nat_abs d + 1
 steps_some a b d h = ap (λ (t : Bool). elim t as (λ _. ℕ) [ true ↦ nat_abs (b -ℤ a) / nat_abs d + 1 | false ↦ zero ]) h
