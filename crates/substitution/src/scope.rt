@@ -1,48 +1,82 @@
 // What a level binds.
-ghost use Rattle.std.specs.Prelude.{◌≡◌, ◌++◌, IfOk, OnOk};
-ghost use Rattle.expr_tree.specs.Substitution.{symbol_in, bound_symbol, bound_symbols, bound_locals, bound_parameters, bound_under, bound_in};
+ghost use Rattle.std.specs.Prelude.{◌≡◌, ◌++◌, IfOk};
+ghost use Rattle.expr_tree.specs.Substitution.{symbol_in, plain_symbol, bound_by, bound_locals, bound_parameters, bound_under, bound_in};
+ghost use Rattle.substitution.specs.Members.{member_symbol};
 
 use expr_tree::{Binders, Expr, Node, Sym, Syms, elements_under, pair_under};
 use item_list::Items;
 use std::alloc::{AllocError, Global};
 
-fn add_symbol_in(e: &Expr, bound: &mut Syms) -> Result<(), AllocError>
-    ensures { OnOk result (bound.new ≡ bound.old ++ symbol_in e.now) }
+/// Which expressions are members of a list that binds.
+#[derive(Clone, Copy)]
+pub(crate) enum Members {
+    /// Symbols and `symbol = value`.
+    Locals,
+    /// `symbol = value`.
+    Values,
+    Symbols,
+}
+
+fn plain_symbol(e: &Expr) -> Option<Sym>
+    ensures { result ≡ plain_symbol e.now }
 {
     match e.node() {
-        Node::Symbol(symbol) => bound.push(*symbol),
-        _ => Ok(()),
+        Node::Symbol(symbol) => Some(*symbol),
+        _ => None,
     }
 }
 
-fn add_bound_symbol(binders: &Binders, e: &Expr, bound: &mut Syms) -> Result<(), AllocError>
-    ensures { OnOk result (bound.new ≡ bound.old ++ bound_symbol binders.now e.now) }
+/// The symbol that a member binds.
+fn member_symbol(binders: &Binders, members: Members, e: &Expr) -> Option<Sym>
+    ensures { result ≡ member_symbol binders.now members e.now }
 {
-    match pair_under(binders.set, e) {
-        None => add_symbol_in(e, bound),
-        Some((left, _)) => add_symbol_in(left, bound),
+    match members {
+        Members::Locals => match pair_under(binders.set, e) {
+            None => plain_symbol(e),
+            Some((left, _)) => plain_symbol(left),
+        },
+        Members::Values => match pair_under(binders.set, e) {
+            None => None,
+            Some((left, _)) => plain_symbol(left),
+        },
+        Members::Symbols => plain_symbol(e),
     }
 }
 
-fn bound_symbols(alloc: Global, binders: &Binders, items: &[Expr]) -> Result<Syms, AllocError>
-    ensures { IfOk result (λ bound. bound ≡ bound_symbols binders.now items.now) }
+/// The symbols of all members, or none where one of them binds none.
+#[tactic(auto, using(crate::proofs::Members::member_steps))]
+fn bound_by(
+    alloc: Global,
+    binders: &Binders,
+    members: Members,
+    items: &[Expr],
+) -> Result<Syms, AllocError>
+    ensures { IfOk result (λ bound. bound ≡ bound_by (member_symbol binders.now members) items.now) }
 {
     let mut bound = Items::new(alloc);
     for item in items {
-        add_bound_symbol(binders, item, &mut bound)?;
+        match member_symbol(binders, members, item) {
+            None => return Ok(Items::new(alloc)),
+            Some(symbol) => bound.push(symbol)?,
+        }
     }
     Ok(bound)
 }
 
-fn bound_locals(alloc: Global, binders: &Binders, items: &[Expr]) -> Result<Syms, AllocError>
-    ensures { IfOk result (λ bound. bound ≡ bound_locals binders.now items.now) }
+fn bound_locals(
+    alloc: Global,
+    binders: &Binders,
+    members: Members,
+    items: &[Expr],
+) -> Result<Syms, AllocError>
+    ensures { IfOk result (λ bound. bound ≡ bound_locals binders.now (member_symbol binders.now members) items.now) }
 {
-    let [locals, ..] = items else {
+    let [locals, _] = items else {
         return Ok(Items::new(alloc));
     };
     match elements_under(binders.list, locals) {
         None => Ok(Items::new(alloc)),
-        Some(members) => bound_symbols(alloc, binders, members.as_slice()),
+        Some(listed) => bound_by(alloc, binders, members, listed.as_slice()),
     }
 }
 
@@ -50,19 +84,21 @@ fn symbol_alone(alloc: Global, e: &Expr) -> Result<Syms, AllocError>
     ensures { IfOk result (λ bound. bound ≡ symbol_in e.now) }
 {
     let mut bound = Items::new(alloc);
-    add_symbol_in(e, &mut bound)?;
+    if let Node::Symbol(symbol) = e.node() {
+        bound.push(*symbol)?;
+    }
     Ok(bound)
 }
 
 fn bound_parameters(alloc: Global, binders: &Binders, items: &[Expr]) -> Result<Syms, AllocError>
     ensures { IfOk result (λ bound. bound ≡ bound_parameters binders.now items.now) }
 {
-    let [parameters, _, ..] = items else {
+    let [parameters, _] = items else {
         return Ok(Items::new(alloc));
     };
     match elements_under(binders.list, parameters) {
         None => symbol_alone(alloc, parameters),
-        Some(members) => bound_symbols(alloc, binders, members.as_slice()),
+        Some(listed) => bound_by(alloc, binders, Members::Symbols, listed.as_slice()),
     }
 }
 
@@ -75,10 +111,10 @@ fn bound_under(
     ensures { IfOk result (λ bound. bound ≡ bound_under binders.now symbol items.now) }
 {
     if symbol == binders.module {
-        return bound_locals(alloc, binders, items);
+        return bound_locals(alloc, binders, Members::Locals, items);
     }
     if symbol == binders.with {
-        return bound_locals(alloc, binders, items);
+        return bound_locals(alloc, binders, Members::Values, items);
     }
     if symbol == binders.function {
         return bound_parameters(alloc, binders, items);
