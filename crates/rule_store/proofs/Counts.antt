@@ -1,10 +1,9 @@
 -- How many subexpressions a number of the key counts: no more than there are atoms.
-use Rattle.std.proofs.Common.{◌≡◌, refl, ◌≤◌, List, [], ◌∷◌, Bool, true, false, length, arith}
-use Rattle.expr_tree.specs.Tree.{Tree, integer, string, symbol, normal, Trees, nil, cons, trees, size, sizes}
+use Rattle.std.proofs.Common.{◌≡◌, refl, ◌≤◌, Bool, true, false, arith}
+use Rattle.expr_tree.specs.Tree.{Tree, integer, string, symbol, normal, Trees, nil, cons, size, sizes}
 use Rattle.expr_tree.proofs.Callers.{tree_steps}
-use Rattle.semantics.specs.Names.{Names, is_name}
-use Rattle.semantics.specs.Rule.{occurrences, occurrences_in, is_untyped, is_typed}
-use Rattle.semantics.specs.declared.builtin.Builtin.{Builtin}
+use Rattle.semantics.specs.Names.{Names}
+use Rattle.semantics.specs.Rule.{occurrences, occurrences_in}
 use Rattle.rule_store.specs.declared.key.Counted.{Counted}
 use Rattle.rule_store.specs.declared.key.Counted.TheVariants.{NullSequences, Sequences, Untyped, Typed, Guards}
 use Rattle.rule_store.specs.Keys.{is_counted}
@@ -12,10 +11,8 @@ use Rattle.rule_store.specs.Keys.{is_counted}
 not_nested : (what : Counted) (names : Names) (h : Tree) (fs es : Trees) → is_counted what names (normal h fs) es ≡ false
 not_nested NullSequences names h fs es = refl
 not_nested Sequences names h fs es = refl
-not_nested Untyped names h fs nil = refl
-not_nested Untyped names h fs (cons e es) = refl
-not_nested Typed names h fs nil = refl
-not_nested Typed names h fs (cons e es) = refl
+not_nested Untyped names h fs es = refl
+not_nested Typed names h fs es = refl
 not_nested Guards names h fs es = refl
 
 one_at_most : (b : Bool) → elim b [ true ↦ 1 | false ↦ 0 ] ≤ 1
@@ -38,11 +35,3 @@ mutual
   no_more_in what names (cons t ts) = omega (arith, no_more_than what names t, no_more_in what names ts)
 
 pub ruleset count_steps = (tree_steps, no_more_than, no_more_in)
-
-pub untyped_more : (names : Names) (h : Tree) (ts : List Tree) → 1 ≤ length ts → is_untyped names h (trees ts) ≡ false
-untyped_more names h [] p = absurd (omega arith)
-untyped_more names h (t ∷ ts) p = refl
-
-pub typed_more : (names : Names) (h : Tree) (ts : List Tree) → 1 ≤ length ts → is_typed names h (trees ts) ≡ is_name names Builtin.Blank h
-typed_more names h [] p = absurd (omega arith)
-typed_more names h (t ∷ ts) p = refl

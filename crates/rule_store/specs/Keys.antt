@@ -1,11 +1,11 @@
 -- The numbers of a key.
 --     numbers_of            these as a list
 --     is_counted            which subexpressions head[..] a number counts
-use Rattle.std.specs.Prelude.{◌≡◌, ℕ, List, [], ◌∷◌, Bool, ◌||◌}
+use Rattle.std.specs.Prelude.{◌≡◌, ℕ, List, [], ◌∷◌, Bool}
 use Rattle.expr_tree.specs.Tree.{Tree, Trees}
 use Rattle.semantics.specs.declared.builtin.Builtin.{Builtin}
-use Rattle.semantics.specs.Names.{Names, is_name}
-use Rattle.semantics.specs.Rule.{Rule, key_of, is_untyped, is_typed}
+use Rattle.semantics.specs.Names.{Names}
+use Rattle.semantics.specs.Rule.{Rule, key_of, is_untyped, is_typed, is_run, is_guarded}
 use Rattle.rule_store.specs.declared.key.Key.{Key}
 use Rattle.rule_store.specs.declared.key.Counted.{Counted}
 use Rattle.rule_store.specs.declared.key.Counted.TheVariants.{NullSequences, Sequences, Untyped, Typed, Guards}
@@ -16,11 +16,11 @@ abbrev pub numbers_of : Key → List ℕ
 numbers_of key = key.null_sequences ∷ key.sequences ∷ key.untyped ∷ key.typed ∷ key.unguarded ∷ []
 
 abbrev pub is_counted : Counted → Names → Tree → Trees → Bool
-is_counted NullSequences names = λ h es. is_name names Builtin.BlankNullSequence h
-is_counted Sequences names = λ h es. is_name names Builtin.BlankSequence h
+is_counted NullSequences names = is_run names Builtin.BlankNullSequence
+is_counted Sequences names = is_run names Builtin.BlankSequence
 is_counted Untyped names = is_untyped names
 is_counted Typed names = is_typed names
-is_counted Guards names = λ h es. is_name names Builtin.Condition h || is_name names Builtin.PatternTest h
+is_counted Guards names = is_guarded names
 
 -- a key that was counted with these marks
 abbrev pub IsKeyed : Rule → Key → Marks → Type 0

@@ -1,7 +1,9 @@
-ghost use Rattle.std.specs.Prelude.{◌≡◌, ◌≤◌, List, ℕ};
+ghost use Rattle.std.specs.Prelude.{◌≡◌, ◌≤◌, ◌||◌, List, ℕ};
 ghost use Rattle.expr_tree.specs.Order.{text_cmp};
 ghost use Rattle.expr_tree.specs.Tree.{trees, sizes};
+ghost use Rattle.semantics.specs.Names.{is_name};
 ghost use Rattle.semantics.specs.Rule as language;
+ghost use Rattle.semantics.specs.declared.builtin.Builtin.{Builtin};
 ghost use Rattle.builtin_names.specs.Named.{HasBuiltins, names_in};
 ghost use Rattle.rule_store.specs.Keys.{numbers_of, is_counted};
 
@@ -15,7 +17,7 @@ use std::cmp::Ordering;
 /// The numbers by which rules stand in order: the smaller key first, number by number.
 #[derive(Clone, Copy, Debug, PartialEq, Eq)]
 pub struct Key {
-    /// How many `___` stand in the left side.
+    /// How many `___` stand in the left side, and likewise below: constructs in another shape do not count.
     pub null_sequences: u64,
     /// How many `__`.
     pub sequences: u64,
@@ -67,24 +69,26 @@ impl Key {
     }
 }
 
+/// Whether a head is that of a condition or a test.
+fn is_guard(names: &Names, head: &Expr) -> bool
+    requires { HasBuiltins names.now }
+    ensures { result ≡ (is_name (names_in names.now) Builtin.Condition head.now || is_name (names_in names.now) Builtin.PatternTest head.now) }
+{
+    is_name(names, Builtin::Condition, head) || is_name(names, Builtin::PatternTest, head)
+}
+
+#[tactic(auto, using(expr_tree::proofs::Callers::tree_steps))]
 fn is_counted(what: Counted, names: &Names, head: &Expr, items: &[Expr]) -> bool
     requires { HasBuiltins names.now }
     ensures { result ≡ is_counted what (names_in names.now) head.now (trees items.now) }
 {
+    let count = items.len();
     match what {
-        Counted::NullSequences => is_name(names, Builtin::BlankNullSequence, head),
-        Counted::Sequences => is_name(names, Builtin::BlankSequence, head),
-        Counted::Untyped => match items {
-            [] => is_name(names, Builtin::Blank, head),
-            [_, ..] => false,
-        },
-        Counted::Typed => match items {
-            [] => false,
-            [_, ..] => is_name(names, Builtin::Blank, head),
-        },
-        Counted::Guards => {
-            is_name(names, Builtin::Condition, head) || is_name(names, Builtin::PatternTest, head)
-        }
+        Counted::NullSequences => is_name(names, Builtin::BlankNullSequence, head) && count <= 1,
+        Counted::Sequences => is_name(names, Builtin::BlankSequence, head) && count <= 1,
+        Counted::Untyped => is_name(names, Builtin::Blank, head) && count == 0,
+        Counted::Typed => is_name(names, Builtin::Blank, head) && count == 1,
+        Counted::Guards => is_guard(names, head) && count == 2,
     }
 }
 
