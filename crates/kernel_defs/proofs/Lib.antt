@@ -1,6 +1,7 @@
 pub mod Wrappers
 pub mod Ups
 pub mod Shapes
+pub mod Symbols
 pub mod Entries
 pub mod Adding
 pub mod Locals

@@ -5,7 +5,7 @@ use Rattle.semantics.specs.Definitions.{is_empty}
 use Rattle.expr_tree.specs.declared.sym.Sym.{Sym}
 use Rattle.expr_tree.specs.Tree.{Tree}
 use Rattle.semantics.specs.Names.{Names}
-use Rattle.semantics.specs.Assign.{Form, ToHead, ToItems, has_wrapping, is_normal, Target, Why, IsProtected, NoSymbol, Nested, NoTag, places, refusal, has_no_symbol, is_nested, inner, asked_symbols, first_protected}
+use Rattle.semantics.specs.Assign.{Form, ToHead, ToItems, ToTag, symbols_at, has_wrapping, is_normal, Target, Why, IsProtected, NoSymbol, Nested, NoTag, places, refusal, has_no_symbol, is_nested, inner, asked_symbols, first_protected}
 
 pub none_protected : (ss : List Sym) → first_protected (λ s. false) ss ≡ None
 none_protected [] = refl
@@ -71,4 +71,13 @@ pub no_symbol_in_items : (names : Names) (left : Tree) → (has_wrapping names l
 no_symbol_in_items names left p =
     ap (λ b. elim b [ true ↦ true | false ↦ elim (places names ToItems left) [ [] ↦ true | _ ↦ false ] ]) p ∙ told_empty (places names ToItems left)
 
-pub ruleset shape_steps = (refused_symbol, refused_nested, refused_tag, not_refused, no_symbol_at_head, no_symbol_in_items)
+empty_or : (ss : List Sym) → elim ss [ [] ↦ true | _ ↦ false ] ≡ is_empty ss
+empty_or [] = refl
+empty_or (s ∷ ss) = refl
+
+pub no_symbol_for_tag : (names : Names) (t : Sym) (left : Tree) → (has_wrapping names left && not (is_normal (inner names left))) ≡ false
+    → has_no_symbol names (ToTag t) left ≡ is_empty (symbols_at (inner names left))
+no_symbol_for_tag names t left p =
+    ap (λ b. elim b [ true ↦ true | false ↦ elim (symbols_at (inner names left)) [ [] ↦ true | _ ↦ false ] ]) p ∙ empty_or (symbols_at (inner names left))
+
+pub ruleset shape_steps = (refused_symbol, refused_nested, refused_tag, not_refused, no_symbol_at_head, no_symbol_in_items, no_symbol_for_tag)

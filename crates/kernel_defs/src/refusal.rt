@@ -1,4 +1,4 @@
-ghost use Rattle.std.specs.Prelude.{◌≡◌, ◌&&◌, not, map, false};
+ghost use Rattle.std.specs.Prelude.{◌≡◌, ◌&&◌, [], not, map, false};
 ghost use Rattle.std.specs.Option.{option_map};
 ghost use Rattle.semantics.specs.Assign as assign;
 ghost use Rattle.semantics.specs.Definitions.{is_empty};
@@ -7,6 +7,7 @@ ghost use Rattle.kernel_defs.specs.Targets.{form_of, target_of, why_of};
 
 use crate::left_side::{has_wrapping, inner, is_nested, is_normal};
 use crate::targets::{Form, Targets};
+use builtin_names::items_of;
 use expr_tree::{Expr, Sym, symbol_of};
 use name_table::Names;
 
@@ -40,6 +41,29 @@ fn has_no_target(targets: &Targets) -> bool
     }
 }
 
+#[tactic(auto, using(crate::proofs::Symbols::symbol_steps))]
+fn have_no_symbol(items: &[Expr]) -> bool
+    ensures { result ≡ is_empty (assign.item_symbols items.now []) }
+{
+    for item in items {
+        if symbol_of(item).is_some() {
+            return false;
+        }
+    }
+    true
+}
+
+/// Whether neither the head of a left side nor an element of it has a symbol.
+#[tactic(auto, using(crate::proofs::Symbols::symbol_steps))]
+fn has_no_symbol_at(left: &Expr) -> bool
+    ensures { result ≡ is_empty (assign.symbols_at left.now) }
+{
+    if symbol_of(left).is_some() {
+        return false;
+    }
+    have_no_symbol(items_of(left))
+}
+
 #[tactic(auto, using(crate::proofs::Shapes::shape_steps))]
 fn has_no_symbol(names: &Names, form: Form, left: &Expr, targets: &Targets) -> bool
     requires names { HasBuiltins names.now }
@@ -51,7 +75,7 @@ fn has_no_symbol(names: &Names, form: Form, left: &Expr, targets: &Targets) -> b
     }
     match form {
         Form::Set | Form::SetDelayed | Form::UpSet | Form::UpSetDelayed => has_no_target(targets),
-        Form::TagSet(_) | Form::TagSetDelayed(_) => symbol_of(inner(names, left)).is_none(),
+        Form::TagSet(_) | Form::TagSetDelayed(_) => has_no_symbol_at(inner(names, left)),
     }
 }
 
