@@ -38,6 +38,8 @@ static DEFINITIONS: &[Row] = values![
     "Function[{x, y}, {y, x}][1, 2]" => "{2, 1}",
     "(f[#2, ##] &)[a, b]" => "f[b, a, b]",
     "With[{x = 2}, Function[x, x]]" => "Function[x, x]",
+    "With[{x = 3}, Hold[Module[{x, 5}, x]]]" => "Hold[Module[{3, 5}, 3]]",
+    "(Hold[Slot[#]] &)[7]" => "Hold[#7]",
 ];
 
 static NUMBERS: &[Row] = values![
@@ -186,7 +188,7 @@ static DIFFERENCES: &[Row] = values![
     "Cases[f[1, a], _?IntegerQ]" => "f[1]",
     "a + b + c /. a + b -> d" => "a + b + c",
     "x /. {{x -> 1}}" => "x /. {{x -> 1}}",
-    "{1, 2, 3} //. {x_, y__} -> {y}" => "{2, 3}",
+    "{1, 2, 3} //. {x_, y__} -> {y}" => "{3}",
     "x =." => "$Failed",
     "With[{x = y}, Function[y, x]]" => "Function[y, y]",
     "Module[{x}, x]" => "x$1",
