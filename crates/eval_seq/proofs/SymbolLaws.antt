@@ -27,6 +27,9 @@ row_of i a b = elim a [ true ↦ Moded (λ mode kernel. Done (integer (pos (numb
 row_is : (set : Setting) (i : Sym) (a b : Bool) → is_known set.names Builtin.KernelID i ≡ a → is_known set.names Builtin.KernelCount i ≡ b → symbol_row set.names i ≡ row_of i a b
 row_is set i a b e f = ap (λ x. row_of i x (is_known set.names Builtin.KernelCount i)) e ∙ ap (row_of i a) f
 
+replied : (e v : Tree) (stay : Prog) {b : Bool} → same v e ≡ b → unless_identical e stay v ≡ elim b [ true ↦ stay | false ↦ Done v ]
+replied e v stay is = ap (λ b. elim b as (λ _. Prog) [ true ↦ stay | false ↦ Done v ]) is
+
 module _ {S : Type 0} {step : Step S} {set : Setting} {n : ℕ} where
   pub pass_is : {p q : Prog} {r : Result Tree Ending} {s z : S} {st st' : State} → p ≡ q → PassOf step set n q s st r st' z → PassOf step set n p s st r st' z
   pass_is e a = rw e a
@@ -49,9 +52,6 @@ module _ {S : Type 0} {step : Step S} {set : Setting} {n : ℕ} where
       record { on = subst (λ t. Leads step s (run set (eval_at set n) (access e stay p) st) t s) (m.by (eval_at set n) e stay p) here }
 
   -- ---- an access that is sent
-
-  replied : (e v : Tree) (stay : Prog) {b : Bool} → same v e ≡ b → unless_identical e stay v ≡ elim b [ true ↦ stay | false ↦ Done v ]
-  replied e v stay is = ap (λ b. elim b as (λ _. Prog) [ true ↦ stay | false ↦ Done v ]) is
 
   pub sent_identical : {e v : Tree} {s z : S} {st st' : State} → Called step (Sends (Access e)) s st (Ok v) st' z → same v e ≡ true →
       Stepped step set n (λ rest. Outer (Access e) (unless_identical e rest)) s st (Ok None) st' z
