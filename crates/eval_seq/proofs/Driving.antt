@@ -4,7 +4,7 @@ use Rattle.std.specs.Result.{IsErrAnd}
 use Rattle.expr_tree.specs.declared.sym.Sym.{Sym}
 use Rattle.expr_tree.specs.Tree.{Tree}
 use Rattle.semantics.specs.Definitions.{Definitions}
-use Rattle.semantics.specs.Program.{Prog, Ask, Within, Local}
+use Rattle.semantics.specs.Program.{Prog, Done, Ask, Within, Local}
 use Rattle.semantics.specs.Play.{Setting, State, run, eval_at, put_locals, put_back, with_definitions, with_locals, without_locals}
 use Rattle.evaluation_steps.specs.declared.Halt.{Halt}
 use Rattle.evaluation_steps.specs.Leads.{Step, Leads, here}
@@ -53,14 +53,18 @@ module _ {S : Type 0} {step : Step S} {set : Setting} {n : ℕ} where
   pub begins_none : {p : Prog → Prog} {s : S} {st : State} → ((rest : Prog) → p rest ≡ rest) → Begins step set n p s st (Ok (Start.Given None)) st s
   begins_none e = record { by = λ rest. reached_is (e rest) }
 
-  -- a program that is over gives the result
-  pub begins_value : {p : Prog → Prog} {o : Prog} {v : Tree} {s m z : S} {st st' st'' : State} → ((rest : Prog) → Reached step set n (p rest) s st o st' m) → PassOf step set n o m st' (Ok v) st'' z →
-      Begins step set n p s st (Ok (Start.Given (Some v))) st'' z
-  begins_value l (valued a) = record { by = λ rest. reached_on (l rest) (record { on = a.went.by }) }
+  reached_value : {p : Prog} {v : Tree} {s z : S} {st st' : State} → PassOf step set n p s st (Ok v) st' z → Reached step set n p s st (Done v) st' z
+  reached_value (valued a) = record { on = a.went.by }
 
-  pub begins_out : {p : Prog → Prog} {o : Prog} {x : Ending} {s m z : S} {st st' st'' : State} → ((rest : Prog) → Reached step set n (p rest) s st o st' m) → PassOf step set n o m st' (Err x) st'' z →
+  -- a program that is over gives the result, or none
+  pub begins_value : {p o : Prog → Prog} (v : Option Tree) {s m z : S} {st st' st'' : State} → ((rest : Prog) → Reached step set n (p rest) s st (o rest) st' m) → Stepped step set n o m st' (Ok v) st'' z →
+      Begins step set n p s st (Ok (Start.Given v)) st'' z
+  begins_value None l a = record { by = λ rest. reached_on (l rest) (a.by rest) }
+  begins_value (Some v) l a = record { by = λ rest. reached_on (l rest) (reached_value (a.by rest)) }
+
+  pub begins_out : {p o : Prog → Prog} {x : Ending} {s m z : S} {st st' st'' : State} → ((rest : Prog) → Reached step set n (p rest) s st (o rest) st' m) → Stepped step set n o m st' (Err x) st'' z →
       Begins step set n p s st (Err x) st'' z
-  begins_out l a = record { by = record { by = λ rest. pass_on (l rest) a } }
+  begins_out l a = record { by = record { by = λ rest. pass_on (l rest) (a.by rest) } }
 
   pub begins_opens : {p : Prog → Prog} {r : Result Start Ending} {s : S} {st : State} → Opens set p r → Begins step set n p s st r st s
   begins_opens {r = Ok start} a = record { by = λ rest. reached_is (a.by rest) }

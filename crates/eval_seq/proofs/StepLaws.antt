@@ -1,5 +1,5 @@
 -- How the steps of a pass follow one another.
-use Rattle.std.proofs.Common.{◌≡◌, ◌∙◌, ℕ, suc, ◌+◌, ◌<◌, length, ◌≤◌, drop, get_or, drop-cons, arith, true, false, List, Option, Some, None, Result, Ok, Err, refl, sym, subst, ap}
+use Rattle.std.proofs.Common.{◌≡◌, ◌∙◌, ℕ, Bool, suc, ◌+◌, ◌<◌, length, ◌≤◌, drop, get_or, drop-cons, arith, true, false, List, Option, Some, None, Result, Ok, Err, refl, sym, subst, ap}
 use Rattle.std.specs.Result.{IsErrAnd}
 use Rattle.std.proofs.lemmas.List.{drop_all}
 use Rattle.expr_tree.specs.declared.sym.Sym.{Sym}
@@ -8,13 +8,13 @@ use Rattle.expr_tree.specs.Shapes.{symbol_of}
 use Rattle.semantics.specs.declared.builtin.Builtin.{Builtin}
 use Rattle.semantics.specs.Names.{Names, is_name, role_of}
 use Rattle.semantics.specs.Rule.{Rule}
-use Rattle.semantics.specs.Definitions.{Attributes, Function, definition_of, has}
+use Rattle.semantics.specs.Definitions.{Attributes, Definitions, definition_of, has}
 use Rattle.semantics.specs.Program.{Prog, Done, Check, Look, Outer, Access, Seen}
 use Rattle.semantics.specs.Attempt.{try_rules}
 use Rattle.semantics.specs.Assemble.{flattened, threaded, sorted, check_all}
 use Rattle.semantics.specs.Names.{make}
 use Rattle.semantics.specs.Scoping.{apply_function}
-use Rattle.semantics.specs.Sections.{unless_access}
+use Rattle.semantics.specs.Sections.{unless_access, unless_identical}
 use Rattle.semantics.specs.Table.{row}
 use Rattle.semantics.specs.Pass.{symbol_rules, up_rules, down_rules, row_or_stay, built_in, last_steps, later_steps, left_standing, marked}
 use Rattle.semantics.specs.Play.{Setting, State, run, eval_at, seen}
@@ -26,11 +26,11 @@ use Rattle.eval_seq.specs.declared.ending.Ending.{Ending}
 use Rattle.eval_seq.specs.declared.machine.Start.{Start}
 use Rattle.eval_seq.specs.Walks.{or_itself, PassOf, valued, halted, Stepped}
 use Rattle.eval_seq.specs.Driven.{driven, Begins, Opens}
-use Rattle.eval_seq.specs.Sequence.{Marks, Uses, Sees, IsSettled, after_values, stripped, last_of, unless_held, head_rules, head_row}
+use Rattle.eval_seq.specs.Sequence.{Uses, Sees, Accesses, sent_or, IsSettled, after_values, stripped, last_of, unless_held, head_rules, head_row}
 use Rattle.expr_tree.proofs.Trees.{elements-trees}
 use Rattle.eval_seq.proofs.Driving.{begins_on, begins_from, begins_none, begins_opens}
 use Rattle.eval_seq.proofs.Walking.{pass_on}
-use Rattle.eval_seq.proofs.SymbolLaws.{pass_is, marks_on, uses_on}
+use Rattle.eval_seq.proofs.SymbolLaws.{pass_is, uses_on}
 
 -- what follows flattening
 abbrev later_of : Names → Tree → Attributes → List Tree → List Tree → Option (List Tree) → Prog
@@ -41,12 +41,6 @@ later_of names head a items flat None =
 whole_is : (names : Names) (head : Tree) (a : Attributes) (items flat : List Tree) (whole stands : Tree) → whole ≡ call head (sorted a flat) → stands ≡ left_standing names a head items whole →
     later_of names head a items flat None ≡ last_of names a whole (Done stands)
 whole_is names head a items flat whole stands w l = rw (l, w, elements-trees (sorted a flat)) refl
-
-down_is : (names : Names) (h : Tree) (items : List Tree) (e : Tree) (rest : Prog) → down_rules names h items e rest ≡ head_rules names h items e (head_row names h items e rest)
-down_is names (integer m) items e rest = refl
-down_is names (string t) items e rest = refl
-down_is names (symbol i) items e rest = refl
-down_is names (normal h fs) items e rest = refl
 
 settled_is : (names : Names) (head : Tree) (a : Attributes) (items : List Tree) → IsSettled names head a items → after_values names (head, a, items) ≡ Check (call head items) (later_steps names head a items)
 settled_is names head a items z = ap (λ xs. Check (call head xs) (later_steps names head a xs)) z.no_sequence
@@ -94,51 +88,55 @@ module _ {S : Type 0} {step : Step S} {set : Setting} {n : ℕ} where
   built_none i items e is = begins_none (λ rest. ap (λ o. row_or_stay set.names o i items e rest) is)
 
   pub built_on : (i : Sym) (items : List Tree) (e : Tree) {b : Builtin} {r : Result Start Ending} {s : S} {st st' : State} → role_of set.names i ≡ Some b →
-      Uses set (λ x p. unless_access set.names (symbol i) items x p) st false st' → Opens set (λ rest. row set.names b rest items) r →
+      Uses set (λ x stay p. unless_access set.names (symbol i) items x stay p) st false st' → Opens set (λ rest. row set.names b rest items) r →
       Begins step set n (λ rest. built_in set.names i items e rest) s st r st' s
   built_on i items e {b = b} is u a =
-      begins_from (λ rest. reached_on (reached_is (ap (λ o. row_or_stay set.names o i items e rest) is)) (uses_on u e (row set.names b rest items))) (begins_opens a)
+      begins_from (λ rest. reached_on (reached_is (ap (λ o. row_or_stay set.names o i items e rest) is)) (uses_on u e rest (row set.names b rest items))) (begins_opens a)
 
   pub built_sent : (i : Sym) (items : List Tree) (e : Tree) {b : Builtin} {s : S} {st st' : State} → role_of set.names i ≡ Some b →
-      Uses set (λ x p. unless_access set.names (symbol i) items x p) st true st' → (rest : Prog) → Reached step set n (built_in set.names i items e rest) s st (Outer (Access e) Done) st' s
-  built_sent i items e {b = b} is u rest = reached_on (reached_is (ap (λ o. row_or_stay set.names o i items e rest) is)) (uses_on u e (row set.names b rest items))
+      Uses set (λ x stay p. unless_access set.names (symbol i) items x stay p) st true st' → (rest : Prog) → Reached step set n (built_in set.names i items e rest) s st (Outer (Access e) (unless_identical e rest)) st' s
+  built_sent i items e {b = b} is u rest = reached_on (reached_is (ap (λ o. row_or_stay set.names o i items e rest) is)) (uses_on u e rest (row set.names b rest items))
 
   -- ---- down rules
 
-  pub head_sent : (i : Sym) (items : List Tree) (e : Tree) {s : S} {st st' : State} → Marks set Function i st true st' → (rest : Prog) →
-      Reached step set n (head_rules set.names (symbol i) items e rest) s st (Outer (Access e) Done) st' s
-  head_sent i items e m rest = marks_on m e (λ it. try_rules set.names it.definition.downs e Done rest)
+  pub head_rules_begin : (d : Definitions) (i : Sym) (items : List Tree) (e : Tree) (rules : List Rule) {r : Result Start Ending} {s : S} {st : State} → rules ≡ (definition_of set.names d i).downs →
+      Opens set (λ rest. try_rules set.names rules e Done rest) r → Begins step set n (λ rest. head_rules set.names d (symbol i) items e rest) s st r st s
+  head_rules_begin d i items e rules is a = begins_from (λ rest. reached_is (ap (λ rs. try_rules set.names rs e Done rest) (sym is))) (begins_opens a)
 
-  pub head_rules_begin : (i : Sym) (items : List Tree) (e : Tree) (rules : List Rule) {r : Result Start Ending} {s : S} {st st' : State} → Marks set Function i st false st' → rules ≡ (definition_of set.names st.definitions i).downs →
-      Opens set (λ rest. try_rules set.names rules e Done rest) r → Begins step set n (λ rest. head_rules set.names (symbol i) items e rest) s st r st' s
-  head_rules_begin i items e rules m is a =
-      begins_from
-      (λ rest. reached_on (marks_on m e (λ it. try_rules set.names it.definition.downs e Done rest)) (reached_is (ap (λ rs. try_rules set.names rs e Done rest) (sym is))))
-      (begins_opens a)
-
-  pub head_function : (h : Tree) (fs : List Tree) (items : List Tree) (e : Tree) {r : Result Start Ending} {s : S} {st : State} → is_name set.names Builtin.Function h ≡ true →
-      Opens set (λ rest. apply_function set.names rest fs items) r → Begins step set n (λ rest. head_rules set.names (call h fs) items e rest) s st r st s
-  head_function h fs items e is a =
+  pub head_function : (d : Definitions) (h : Tree) (fs : List Tree) (items : List Tree) (e : Tree) {r : Result Start Ending} {s : S} {st : State} → is_name set.names Builtin.Function h ≡ true →
+      Opens set (λ rest. apply_function set.names rest fs items) r → Begins step set n (λ rest. head_rules set.names d (call h fs) items e rest) s st r st s
+  head_function d h fs items e is a =
       begins_from
       (λ rest. reached_is (ap (λ b. elim b as (λ _. Prog) [ true ↦ apply_function set.names rest (elements (trees fs)) items | false ↦ rest ]) is ∙ ap (λ xs. apply_function set.names rest xs items) (elements-trees fs)))
       (begins_opens a)
 
-  pub head_other : (h : Tree) (fs : List Tree) (items : List Tree) (e : Tree) {s : S} {st : State} → is_name set.names Builtin.Function h ≡ false →
-      Begins step set n (λ rest. head_rules set.names (call h fs) items e rest) s st (Ok (Start.Given None)) st s
-  head_other h fs items e is = begins_none (λ rest. ap (λ b. elim b as (λ _. Prog) [ true ↦ apply_function set.names rest (elements (trees fs)) items | false ↦ rest ]) is)
+  pub head_other : (d : Definitions) (h : Tree) (fs : List Tree) (items : List Tree) (e : Tree) {s : S} {st : State} → is_name set.names Builtin.Function h ≡ false →
+      Begins step set n (λ rest. head_rules set.names d (call h fs) items e rest) s st (Ok (Start.Given None)) st s
+  head_other d h fs items e is = begins_none (λ rest. ap (λ b. elim b as (λ _. Prog) [ true ↦ apply_function set.names rest (elements (trees fs)) items | false ↦ rest ]) is)
 
-  pub down_value : (h : Tree) (items : List Tree) (e : Tree) {start : Start} {v : Tree} {s m z : S} {st st' st'' : State} → Begins step set n (λ rest. head_rules set.names h items e rest) s st (Ok start) st' m →
+  accesses_on : {h : Tree} {b : Bool} {s : S} {st st' : State} → Accesses set h st b st' → (items : List Tree) (e : Tree) (rest : Prog) →
+      Reached step set n (down_rules set.names h items e rest) s st (sent_or b e rest (head_rules set.names st.definitions h items e (head_row set.names h items e rest))) st' s
+  accesses_on {h = h} {s = s} {st = st} m items e rest =
+      record { on = subst (λ t. Leads step s (run set (eval_at set n) (down_rules set.names h items e rest) st) t s) (m.by (eval_at set n) items e rest) here }
+
+  pub down_sent : (h : Tree) (items : List Tree) (e : Tree) {r : Result (Option Tree) Ending} {s z : S} {st st' st'' : State} → Accesses set h st true st' →
+      Stepped step set n (λ rest. Outer (Access e) (unless_identical e rest)) s st' r st'' z → Stepped step set n (λ rest. down_rules set.names h items e rest) s st r st'' z
+  down_sent h items e m a = stepped_on (λ rest. accesses_on m items e rest) a
+
+  pub down_value : (h : Tree) (items : List Tree) (e : Tree) {start : Start} {v : Tree} {s m z : S} {st st0 st' st'' : State} → Accesses set h st false st0 →
+      Begins step set n (λ rest. head_rules set.names st.definitions h items e rest) s st0 (Ok start) st' m →
       Stepped step set n (driven set.names start) m st' (Ok (Some v)) st'' z → Stepped step set n (λ rest. down_rules set.names h items e rest) s st (Ok (Some v)) st'' z
-  down_value h items e a b = stepped_is (λ rest. down_is set.names h items e rest) (stepped_then_value {q = λ rest. head_row set.names h items e rest} (begins_on a b))
+  down_value h items e m a b = stepped_on (λ rest. accesses_on m items e rest) (stepped_then_value {q = λ rest. head_row set.names h items e rest} (begins_on a b))
 
-  pub down_out : (h : Tree) (items : List Tree) (e : Tree) {x : Ending} {s z : S} {st st' : State} → Stepped step set n (λ rest. head_rules set.names h items e rest) s st (Err x) st' z →
-      Stepped step set n (λ rest. down_rules set.names h items e rest) s st (Err x) st' z
-  down_out h items e a = stepped_is (λ rest. down_is set.names h items e rest) (stepped_then_out {q = λ rest. head_row set.names h items e rest} a)
+  pub down_out : (h : Tree) (items : List Tree) (e : Tree) {x : Ending} {s z : S} {st st0 st' : State} → Accesses set h st false st0 →
+      Stepped step set n (λ rest. head_rules set.names st.definitions h items e rest) s st0 (Err x) st' z → Stepped step set n (λ rest. down_rules set.names h items e rest) s st (Err x) st' z
+  down_out h items e m a = stepped_on (λ rest. accesses_on m items e rest) (stepped_then_out {q = λ rest. head_row set.names h items e rest} a)
 
-  pub down_on : (h : Tree) (items : List Tree) (e : Tree) {start : Start} {r : Result (Option Tree) Ending} {s m o z : S} {st st1 st2 st3 : State} → Begins step set n (λ rest. head_rules set.names h items e rest) s st (Ok start) st1 m →
+  pub down_on : (h : Tree) (items : List Tree) (e : Tree) {start : Start} {r : Result (Option Tree) Ending} {s m o z : S} {st st0 st1 st2 st3 : State} → Accesses set h st false st0 →
+      Begins step set n (λ rest. head_rules set.names st.definitions h items e rest) s st0 (Ok start) st1 m →
       Stepped step set n (driven set.names start) m st1 (Ok None) st2 o → Stepped step set n (λ rest. head_row set.names h items e rest) o st2 r st3 z →
       Stepped step set n (λ rest. down_rules set.names h items e rest) s st r st3 z
-  down_on h items e a b c = stepped_is (λ rest. down_is set.names h items e rest) (stepped_then {q = λ rest. head_row set.names h items e rest} (begins_on a b) c)
+  down_on h items e m a b c = stepped_on (λ rest. accesses_on m items e rest) (stepped_then {q = λ rest. head_row set.names h items e rest} (begins_on a b) c)
 
   -- ---- up rules
 

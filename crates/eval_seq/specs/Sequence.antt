@@ -9,7 +9,7 @@
 --     unless_held           the up rules of the symbols of the elements
 --     head_rules, head_row  the down rules of the head; its row
 --     Answers, AnswersOr    the end of a program that asks nothing
---     Marks                 a use of a symbol that may be shared
+--     Marks, Uses, Accesses a use of a symbol that may be shared, by what it leads to
 use Rattle.std.specs.Prelude.{◌≡◌, ◌⊎◌, ◌<◌, ◌≤◌, ◌-◌, ℕ, List, [], ◌∷◌, ◌++◌, Bool, true, false, Option, Some, None, Result, Ok, Err, unwrap_or}
 use Rattle.expr_tree.specs.declared.sym.Sym.{Sym}
 use Rattle.expr_tree.specs.declared.limits.Limits.{Limits}
@@ -17,13 +17,13 @@ use Rattle.expr_tree.specs.Tree.{Tree, symbol, normal, elements, call, size, dep
 use Rattle.semantics.specs.declared.builtin.Builtin.{Builtin}
 use Rattle.semantics.specs.Names.{Names, is_name}
 use Rattle.semantics.specs.Steps.{strip}
-use Rattle.semantics.specs.Definitions.{Definitions, Attributes, Share, Function, definition_of, has}
+use Rattle.semantics.specs.Definitions.{Definitions, Attributes, Share, definition_of, has}
 use Rattle.semantics.specs.Program.{Prog, Done, Ask, Look, Outer, Access, Check, Seen, Mode, Cell, Item, Service}
 use Rattle.semantics.specs.Assemble.{attributes_of, is_asked, ask_rest, ask_items, spliced, flattened, threaded, sorted}
-use Rattle.semantics.specs.Sections.{access_or}
+use Rattle.semantics.specs.Sections.{access_or, unless_identical}
 use Rattle.semantics.specs.Attempt.{try_rules}
 use Rattle.semantics.specs.Scoping.{apply_function}
-use Rattle.semantics.specs.Pass.{later_steps, last_steps, left_standing, marked, up_rules, built_in}
+use Rattle.semantics.specs.Pass.{later_steps, last_steps, left_standing, marked, up_rules, down_rules, built_in}
 use Rattle.semantics.specs.Play.{Setting, State, Evaluator, run, seen, too_large}
 use Rattle.builtin_names.specs.Attributes.{attributes_in}
 use Rattle.evaluation_steps.specs.Leads.{Step}
@@ -86,11 +86,11 @@ last_of names a _ rest = rest
 abbrev pub unless_held : Names → Attributes → List Tree → Tree → Prog → Prog
 unless_held names a items e next = elim (has Builtin.HoldAllComplete a) [ true ↦ next | false ↦ up_rules names items e next ]
 
--- `next` follows where no rule applies
-abbrev pub head_rules : Names → Tree → List Tree → Tree → Prog → Prog
-head_rules names (symbol s) items e next = Look s (λ seen. access_or seen.shared Function e (marked seen.shared (try_rules names seen.definition.downs e Done next)))
-head_rules names (normal h fs) items e next = elim (is_name names Builtin.Function h) [ true ↦ apply_function names next (elements fs) items | false ↦ next ]
-head_rules names _ items e next = next
+-- by these definitions; `next` follows where no rule applies
+abbrev pub head_rules : Names → Definitions → Tree → List Tree → Tree → Prog → Prog
+head_rules names d (symbol s) items e next = try_rules names (definition_of names d s).downs e Done next
+head_rules names d (normal h fs) items e next = elim (is_name names Builtin.Function h) [ true ↦ apply_function names next (elements fs) items | false ↦ next ]
+head_rules names d _ items e next = next
 
 abbrev pub head_row : Names → Tree → List Tree → Tree → Prog → Prog
 head_row names (symbol s) items e stay = built_in names s items e stay
@@ -111,14 +111,24 @@ is_item Item = true
 is_item Cell = false
 is_item Service = false
 
+-- an access that is sent, after whose reply `stay` follows where it is identical; else p
+abbrev pub sent_or : Bool → Tree → Prog → Prog → Prog
+sent_or sent e stay p = elim sent [ true ↦ Outer (Access e) (unless_identical e stay) | false ↦ p ]
+
 pub record Marks (set : Setting) (kind : Share) (s : Sym) (st : State) (sent : Bool) (st' : State) : Type 0 where
-  pub by : (ev : Evaluator) (e : Tree) (q : Seen → Prog) →
-      run set ev (Look s (λ it. access_or it.shared kind e (marked it.shared (q it)))) st
-      ≡ run set ev (elim sent [ true ↦ Outer (Access e) Done | false ↦ q (seen set.names st.definitions s) ]) st'
+  pub by : (ev : Evaluator) (e : Tree) (stay : Prog) (q : Seen → Prog) →
+      run set ev (Look s (λ it. access_or it.shared kind e stay (marked it.shared (q it)))) st
+      ≡ run set ev (sent_or sent e stay (q (seen set.names st.definitions s))) st'
 
 -- `access` leads to an access that is sent, or to what follows it
-pub record Uses (set : Setting) (access : Tree → Prog → Prog) (st : State) (sent : Bool) (st' : State) : Type 0 where
-  pub by : (ev : Evaluator) (e : Tree) (p : Prog) → run set ev (access e p) st ≡ run set ev (elim sent [ true ↦ Outer (Access e) Done | false ↦ p ]) st'
+pub record Uses (set : Setting) (access : Tree → Prog → Prog → Prog) (st : State) (sent : Bool) (st' : State) : Type 0 where
+  pub by : (ev : Evaluator) (e : Tree) (stay p : Prog) → run set ev (access e stay p) st ≡ run set ev (sent_or sent e stay p) st'
+
+-- the same of a call of a head, after which its rules and its row follow
+pub record Accesses (set : Setting) (head : Tree) (st : State) (sent : Bool) (st' : State) : Type 0 where
+  pub by : (ev : Evaluator) (items : List Tree) (e : Tree) (rest : Prog) →
+      run set ev (down_rules set.names head items e rest) st
+      ≡ run set ev (sent_or sent e rest (head_rules set.names st.definitions head items e (head_row set.names head items e rest))) st'
 
 -- a look at a symbol, whose use is marked
 pub record Sees (set : Setting) (s : Sym) (st st' : State) : Type 0 where

@@ -25,7 +25,7 @@ use crate::outward::Upcall;
 use crate::put_by::put_by;
 use crate::settled::is_settled;
 use crate::steps::{head_row_start, head_start, up_start};
-use crate::symbols::{attrs_under, own};
+use crate::symbols::{accesses, attrs_under, own, send_access};
 use crate::values::{Values, new_or_copies, new_or_copy, new_or_old, with_next};
 use attr_steps::{holds_first, holds_rest, is_asked, spliced, threaded};
 use evaluation_steps::Halt;
@@ -484,6 +484,9 @@ fn down_steps<U: Upcall>(
     requires { U.ready up.old }
     ensures { Stepped (Guarded U.step U.ready) (setting_of scene.now) left (λ rest. p.down_rules (names_in scene.now.names.now) head.now items.now whole.now rest) up.old (state_of defs.old going.old) result (state_of defs.new going.new) up.new }
 {
+    if accesses(scene, defs, going, head) {
+        return send_access(scene, defs, up, going, whole);
+    }
     let rules = head_start(scene, defs, up, going, whole, head, items.as_slice())?;
     if let Some(value) = drive(scene, left, defs, up, going, rules)? {
         return Ok(Some(value));

@@ -1,6 +1,5 @@
 //! How the steps of a pass after splicing begin.
 ghost use Rattle.std.specs.Prelude.{◌≡◌, ℕ, Some};
-ghost use Rattle.expr_tree.specs.Tree as tree;
 ghost use Rattle.semantics.specs.Attempt.{try_rules};
 ghost use Rattle.semantics.specs.Pass as p;
 ghost use Rattle.semantics.specs.Play.{Setting};
@@ -17,7 +16,7 @@ use crate::ending::Ending;
 use crate::machine::Start;
 use crate::outward::Upcall;
 use crate::rows::{function_start, row_start};
-use crate::symbols::{changes, marks, send_access};
+use crate::symbols::{changes, send_access};
 use builtin_names::{is_name, role_of};
 use expr_tree::{Expr, Exprs, Node, Sym};
 use kernel_defs::Defs;
@@ -25,7 +24,6 @@ use machine_rows::Frame;
 use machine_steps::Scene;
 use rule_store::Rule;
 use semantics::Builtin;
-use shared_calls::ShareKind;
 use std::alloc::Global;
 
 /// Looks at a symbol, whose use is marked where it is shared.
@@ -65,42 +63,20 @@ pub(crate) fn up_start<U: Upcall>(
     rules_start(scene.alloc, defs.ups_of(symbol), whole)
 }
 
-/// How trying the down rules of a symbol begins.
-fn down_start<U: Upcall>(
-    scene: &Scene,
-    defs: &mut Defs,
-    up: &mut U,
-    going: &mut Going,
-    symbol: Sym,
-    whole: &Expr,
-    _items: &[Expr],
-) -> Result<Start, Ending>
-    requires { U.ready up.old }
-    ensures { (n : ℕ) → Begins (Guarded U.step U.ready) (setting_of scene.now) n (λ rest. head_rules (names_in scene.now.names.now) (tree.symbol symbol) _items.now whole.now rest) up.old (state_of defs.old going.old) result (state_of defs.new going.new) up.new }
-{
-    if marks(scene, defs, going, ShareKind::Function, symbol) {
-        let access = whole.copy(scene.alloc)?;
-        let value = send_access(scene, defs, up, going, access)?;
-        return Ok(Start::Given(Some(value)));
-    }
-    rules_start(scene.alloc, defs.downs_of(symbol), whole)
-}
-
 /// How trying the rules of a head begins, or applying it where it is a `Function`.
 pub(crate) fn head_start<U: Upcall>(
     scene: &Scene,
-    defs: &mut Defs,
-    up: &mut U,
-    going: &mut Going,
+    defs: &Defs,
+    _up: &U,
+    _going: &Going,
     whole: &Expr,
     head: &Expr,
     items: &[Expr],
 ) -> Result<Start, Ending>
-    requires { U.ready up.old }
-    ensures { (n : ℕ) → Begins (Guarded U.step U.ready) (setting_of scene.now) n (λ rest. head_rules (names_in scene.now.names.now) head.now items.now whole.now rest) up.old (state_of defs.old going.old) result (state_of defs.new going.new) up.new }
+    ensures { (n : ℕ) → Begins (Guarded U.step U.ready) (setting_of scene.now) n (λ rest. head_rules (names_in scene.now.names.now) defs.now head.now items.now whole.now rest) _up.now (state_of defs.now _going.now) result (state_of defs.now _going.now) _up.now }
 {
     match head.node() {
-        Node::Symbol(symbol) => down_start(scene, defs, up, going, *symbol, whole, items),
+        Node::Symbol(symbol) => rules_start(scene.alloc, defs.downs_of(*symbol), whole),
         Node::Normal(inner, parts) => {
             if is_name(scene.names, Builtin::Function, inner) {
                 return function_start(scene, parts.as_slice(), items);
@@ -129,9 +105,8 @@ fn built_in<U: Upcall>(
         return Ok(Start::Given(None));
     };
     if changes(scene, defs, going, symbol, items.as_slice()) {
-        let access = whole.copy(scene.alloc)?;
-        let value = send_access(scene, defs, up, going, access)?;
-        return Ok(Start::Given(Some(value)));
+        let reply = send_access(scene, defs, up, going, whole)?;
+        return Ok(Start::Given(reply));
     }
     row_start(scene, row, items)
 }

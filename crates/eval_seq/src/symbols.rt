@@ -2,17 +2,17 @@
 ghost use Rattle.std.specs.Prelude.{◌≡◌, ℕ};
 ghost use Rattle.expr_tree.specs.Tree.{symbol};
 ghost use Rattle.semantics.specs.Program as p;
-ghost use Rattle.semantics.specs.Program.{Outer, Access, Done};
-ghost use Rattle.semantics.specs.Pass.{symbol_pass, symbol_row};
-ghost use Rattle.semantics.specs.Sections.{unless_access};
+ghost use Rattle.semantics.specs.Program.{Outer, Access};
+ghost use Rattle.semantics.specs.Pass.{number_in, symbol_pass, symbol_row};
+ghost use Rattle.semantics.specs.Sections.{unless_access, unless_identical};
 ghost use Rattle.builtin_names.specs.Attributes.{attributes_in};
 ghost use Rattle.builtin_names.specs.Named.{HasBuiltins, names_in};
 ghost use Rattle.shared_calls.specs.View.{share_of};
 ghost use Rattle.eval_seq.specs.Outward.{Guarded};
 ghost use Rattle.machine_steps.specs.Setup.{mode_of, setting_of};
 ghost use Rattle.eval_seq.specs.Setup.{state_of};
-ghost use Rattle.eval_seq.specs.Walks.{or_itself, PassOf};
-ghost use Rattle.eval_seq.specs.Sequence.{attributes_seen, is_item, Marks, Uses};
+ghost use Rattle.eval_seq.specs.Walks.{or_itself, PassOf, Stepped};
+ghost use Rattle.eval_seq.specs.Sequence.{attributes_seen, is_item, Accesses, Marks, Uses};
 
 use crate::context::Going;
 use crate::effects::outward;
@@ -74,7 +74,7 @@ pub(crate) fn changes(
     row: Sym,
     items: &[Expr],
 ) -> bool
-    ensures { Uses (setting_of scene.now) (λ e p. unless_access (names_in scene.now.names.now) (symbol row) items.now e p) (state_of defs.now going.old) result (state_of defs.now going.new) }
+    ensures { Uses (setting_of scene.now) (λ e stay p. unless_access (names_in scene.now.names.now) (symbol row) items.now e stay p) (state_of defs.now going.old) result (state_of defs.now going.new) }
 {
     accesses_are_sent();
     if changed_symbol(defs.shared(), scene.names, row, items).is_none() {
@@ -84,20 +84,49 @@ pub(crate) fn changes(
     is_item(scene.mode)
 }
 
-/// Sends an access.
+/// Whether a call of a head is sent outward, as that of a shared function.
+pub(crate) fn accesses(scene: &Scene, defs: &Defs, going: &mut Going, head: &Expr) -> bool
+    ensures { Accesses (setting_of scene.now) head.now (state_of defs.now going.old) result (state_of defs.now going.new) }
+{
+    match head.node() {
+        Node::Symbol(symbol) => marks(scene, defs, going, ShareKind::Function, *symbol),
+        Node::Normal(_, _) => false,
+        Node::Int(_) => false,
+        Node::Str(_) => false,
+    }
+}
+
+/// Sends an access. `None` is a reply identical to it.
 pub(crate) fn send_access<U: Upcall>(
-    _scene: &Scene,
+    scene: &Scene,
     defs: &mut Defs,
     up: &mut U,
     going: &Going,
-    e: Expr,
-) -> Result<Expr, Ending>
+    access: &Expr,
+) -> Result<Option<Expr>, Ending>
     requires { U.ready up.old }
-    ensures { (n : ℕ) → PassOf (Guarded U.step U.ready) (setting_of _scene.now) n (Outer (Access e) Done) up.old (state_of defs.old going.now) result (state_of defs.new going.now) up.new }
+    ensures { (n : ℕ) → Stepped (Guarded U.step U.ready) (setting_of scene.now) n (λ rest. Outer (Access access.now) (unless_identical access.now rest)) up.old (state_of defs.old going.now) result (state_of defs.new going.now) up.new }
 {
-    match outward(defs, up, going, Want::Access(e)) {
-        Ok(v) => Ok(v),
+    let sent = access.copy(scene.alloc)?;
+    match outward(defs, up, going, Want::Access(sent)) {
+        Ok(reply) => {
+            if reply.equals(access) {
+                return Ok(None);
+            }
+            Ok(Some(reply))
+        }
         Err(halt) => Err(Ending::Halt(halt)),
+    }
+}
+
+/// The number of the kernel in an item, and of the master elsewhere.
+fn kernel_number(scene: &Scene) -> u32
+    ensures { result ≡ number_in (mode_of scene.now.mode) scene.now.kernel }
+{
+    match scene.mode {
+        Mode::Item => scene.kernel,
+        Mode::Cell => 0,
+        Mode::Service => 0,
     }
 }
 
@@ -114,7 +143,7 @@ fn symbol_row<U: Upcall>(
 {
     if is_known(scene.names, Builtin::KernelID, symbol) {
         going.used = true;
-        return Ok(Some(Expr::int(scene.kernel as i128)));
+        return Ok(Some(Expr::int(kernel_number(scene) as i128)));
     }
     if is_known(scene.names, Builtin::KernelCount, symbol) {
         going.used = true;
@@ -138,8 +167,8 @@ pub(crate) fn own<U: Upcall>(
     ensures { (n : ℕ) → PassOf (Guarded U.step U.ready) (setting_of scene.now) n (symbol_pass (names_in scene.now.names.now) symbol) up.old (state_of defs.old going.old) (or_itself (Rattle.expr_tree.specs.Tree.symbol symbol) result) (state_of defs.new going.new) up.new }
 {
     if marks(scene, defs, going, ShareKind::Variable, symbol) {
-        let value = send_access(scene, defs, up, going, Expr::symbol(symbol))?;
-        return Ok(Some(value));
+        let access = Expr::symbol(symbol);
+        return send_access(scene, defs, up, going, &access);
     }
     if let Some(value) = defs.own_of(symbol) {
         return Ok(Some(value.copy(scene.alloc)?));

@@ -7,7 +7,7 @@ use Rattle.expr_tree.specs.Tree.{Tree, Trees, integer, string, symbol, normal, t
 use Rattle.expr_tree.proofs.Callers.{tree_steps}
 use Rattle.semantics.specs.declared.builtin.Builtin.{Builtin}
 use Rattle.semantics.specs.Names.{Names, is_name, is_call, items_of}
-use Rattle.semantics.specs.InPlace.{as_one, nth, slot_number, filled, slot_value, is_slot, is_pure_function, fill_slots, fill_in_items}
+use Rattle.semantics.specs.InPlace.{as_one, nth, slot_number, slot_of, filled, is_pure_function, fill_slots, fill_in_items}
 
 pub number_some : (z : ℤ) → pos 0 <ℤ z → slot_number (integer z ∷ []) ≡ Some (nat_abs z - 1)
 number_some (pos zero) p = absurd (omega (arith, ints, p))
@@ -29,17 +29,11 @@ number_of_many (normal h ts) f es = refl
 
 pub ruleset number_steps = (tree_steps, number_some, number_below, number_of_many)
 
-abbrev number_fills : Names → List Tree → Tree → Option ℕ → Tree
-number_fills names args e o = elim o [ None ↦ e | Some n ↦ filled names args e n ]
-
 abbrev argument_or : Tree → Option Tree → Tree
 argument_or e o = elim o [ None ↦ e | Some x ↦ x ]
 
 abbrev fills : Names → List Tree → Tree → ℕ → Bool → Bool → Tree
 fills names args e n slot within = elim slot [ true ↦ argument_or e (nth args (suc n)) | false ↦ elim within [ true ↦ as_one names (drop n args) | false ↦ e ] ]
-
-pub value_unnumbered : (names : Names) (args : List Tree) (e : Tree) → slot_number (items_of e) ≡ None → slot_value names args e ≡ e
-value_unnumbered names args e none' = ap (number_fills names args e) none'
 
 nth_far : (args : List Tree) (n : ℕ) → length args ≤ n → nth args (suc n) ≡ None
 nth_far [] n far = refl
@@ -51,42 +45,41 @@ nth_within names [] n e within = absurd (omega (arith, within))
 nth_within names (a ∷ args) zero e within = refl
 nth_within names (a ∷ args) (suc n) e within = nth_within names args n e (omega (arith, within))
 
-pub value_far : (names : Names) (args : List Tree) (e : Tree) (n : ℕ) → slot_number (items_of e) ≡ Some n → length args ≤ n → slot_value names args e ≡ e
-value_far names args e n some far = ap (number_fills names args e) some ∙ go (is_call names Builtin.Slot e)
+pub filled_far : (names : Names) (args : List Tree) (e : Tree) (n : ℕ) → length args ≤ n → filled names args e n ≡ e
+filled_far names args e n far = go (is_call names Builtin.Slot e)
   where
     go : (t : Bool) → fills names args e n t (ltb n (length args)) ≡ e
     go true = ap (argument_or e) (nth_far args n far)
     go false = ap (fills names args e n false) (le-ltb n (length args) far)
 
-pub value_one : (names : Names) (args : List Tree) (e : Tree) (n : ℕ) → slot_number (items_of e) ≡ Some n → n < length args → is_call names Builtin.Slot e ≡ true → slot_value names args e ≡ as_one names (take 1 (drop n args))
-value_one names args e n some within slot =
-    ap (number_fills names args e) some ∙ ap (λ t. fills names args e n t (ltb n (length args))) slot ∙ nth_within names args n e within
+pub filled_one : (names : Names) (args : List Tree) (e : Tree) (n : ℕ) → n < length args → is_call names Builtin.Slot e ≡ true → filled names args e n ≡ as_one names (take 1 (drop n args))
+filled_one names args e n within slot = ap (λ t. fills names args e n t (ltb n (length args))) slot ∙ nth_within names args n e within
 
-pub value_rest : (names : Names) (args : List Tree) (e : Tree) (n : ℕ) → slot_number (items_of e) ≡ Some n → n < length args → is_call names Builtin.Slot e ≡ false → slot_value names args e ≡ as_one names (drop n args)
-value_rest names args e n some within slot =
-    ap (number_fills names args e) some ∙ ap (λ t. fills names args e n t (ltb n (length args))) slot ∙ ap (fills names args e n false) (lt-ltb n (length args) within)
+pub filled_rest : (names : Names) (args : List Tree) (e : Tree) (n : ℕ) → n < length args → is_call names Builtin.Slot e ≡ false → filled names args e n ≡ as_one names (drop n args)
+filled_rest names args e n within slot =
+    ap (λ t. fills names args e n t (ltb n (length args))) slot ∙ ap (fills names args e n false) (lt-ltb n (length args) within)
 
-pub ruleset run_steps = (tree_steps, value_unnumbered, value_far, value_one, value_rest)
+pub ruleset run_steps = (tree_steps, filled_far, filled_one, filled_rest)
 
-abbrev level : Names → List Tree → Tree → Trees → Bool → Bool → Tree
+abbrev level : Names → List Tree → Tree → Trees → Option ℕ → Bool → Tree
 level names args h es slot pure =
     elim slot [
-      | true ↦ slot_value names args (normal h es)
-      | false ↦ elim pure [ true ↦ normal h es | false ↦ normal (fill_slots names args h) (fill_in_items names args es) ]
+      | Some n ↦ filled names args (normal h es) n
+      | None ↦ elim pure [ true ↦ normal h es | false ↦ normal (fill_slots names args h) (fill_in_items names args es) ]
     ]
 
-pub fill_of_slot : (names : Names) (args : List Tree) (e h : Tree) (es : Trees) → normal h es ≡ e → is_slot names e ≡ true → fill_slots names args e ≡ slot_value names args e
-fill_of_slot names args e h es is slot =
-    subst (λ f. is_slot names f ≡ true → fill_slots names args f ≡ slot_value names args f) is (λ s. ap (λ t. level names args h es t (is_pure_function names h es)) s) slot
+pub fill_of_slot : (names : Names) (args : List Tree) (e h : Tree) (es : Trees) (n : ℕ) → normal h es ≡ e → slot_of names e ≡ Some n → fill_slots names args e ≡ filled names args e n
+fill_of_slot names args e h es n is slot =
+    subst (λ f. slot_of names f ≡ Some n → fill_slots names args f ≡ filled names args f n) is (λ s. ap (λ t. level names args h es t (is_pure_function names h es)) s) slot
 
-pub fill_of_function : (names : Names) (args : List Tree) (e h : Tree) (es : Trees) → normal h es ≡ e → is_slot names e ≡ false → is_pure_function names h es ≡ true → fill_slots names args e ≡ e
+pub fill_of_function : (names : Names) (args : List Tree) (e h : Tree) (es : Trees) → normal h es ≡ e → slot_of names e ≡ None → is_pure_function names h es ≡ true → fill_slots names args e ≡ e
 fill_of_function names args e h es is slot pure =
-    subst (λ f. is_slot names f ≡ false → fill_slots names args f ≡ f) is (λ s i. level names args h es (s i) (pure i)) slot
+    subst (λ f. slot_of names f ≡ None → fill_slots names args f ≡ f) is (λ s i. level names args h es (s i) (pure i)) slot
 
-pub fill_of_level : (names : Names) (args : List Tree) (e h : Tree) (es : Trees) → normal h es ≡ e → is_slot names e ≡ false → is_pure_function names h es ≡ false
+pub fill_of_level : (names : Names) (args : List Tree) (e h : Tree) (es : Trees) → normal h es ≡ e → slot_of names e ≡ None → is_pure_function names h es ≡ false
     → fill_slots names args e ≡ normal (fill_slots names args h) (fill_in_items names args es)
 fill_of_level names args e h es is slot other =
-    subst (λ f. is_slot names f ≡ false → fill_slots names args f ≡ normal (fill_slots names args h) (fill_in_items names args es)) is (λ s i. level names args h es (s i) (other i)) slot
+    subst (λ f. slot_of names f ≡ None → fill_slots names args f ≡ normal (fill_slots names args h) (fill_in_items names args es)) is (λ s i. level names args h es (s i) (other i)) slot
 
 pub one_element : (names : Names) (h : Tree) (es : List Tree) → length es ≡ 1 → is_pure_function names h (trees es) ≡ is_name names Builtin.Function h
 one_element names h [] one = absurd (omega (arith, one))

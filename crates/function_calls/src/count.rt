@@ -1,10 +1,10 @@
 //! The size of an expression whose slots are filled, counted as far as one more than an expression may have.
 ghost use Rattle.std.specs.Prelude.{◌≡◌, ◌+◌, min};
 ghost use Rattle.expr_tree.specs.Tree.{trees, size, sizes};
-ghost use Rattle.semantics.specs.InPlace.{as_one, fill_slots, fill_in_items, slot_value};
+ghost use Rattle.semantics.specs.InPlace.{as_one, fill_slots, fill_in_items, filled};
 ghost use Rattle.builtin_names.specs.Named.{HasBuiltins, names_in};
 
-use crate::slots::{is_pure_function, is_slot, run_for};
+use crate::slots::{is_pure_function, run_for, slot_of};
 use expr_tree::{Expr, MAX_SIZE, Node};
 use name_table::Names;
 
@@ -32,11 +32,11 @@ fn nodes_of_run(_names: &Names, run: &[Expr]) -> u64
     }
 }
 
-fn nodes_of_slot(names: &Names, args: &[Expr], slot: &Expr) -> u64
+fn nodes_of_slot(names: &Names, args: &[Expr], slot: &Expr, place: u128) -> u64
     requires names { HasBuiltins names.now }
-    ensures { result ≡ min (size (slot_value (names_in names.now) args.now slot.now)) 4000001 }
+    ensures { result ≡ min (size (filled (names_in names.now) args.now slot.now place)) 4000001 }
 {
-    match run_for(names, args, slot) {
+    match run_for(names, args, slot, place) {
         None => slot.size(),
         Some(run) => nodes_of_run(names, run),
     }
@@ -51,8 +51,8 @@ pub(crate) fn nodes_after(names: &Names, args: &[Expr], e: &Expr) -> u64
     let Node::Normal(head, items) = e.node() else {
         return 1;
     };
-    if is_slot(names, e) {
-        return nodes_of_slot(names, args, e);
+    if let Some(place) = slot_of(names, e) {
+        return nodes_of_slot(names, args, e, place);
     }
     if is_pure_function(names, head, items.as_slice()) {
         return e.size();

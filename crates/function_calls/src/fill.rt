@@ -1,11 +1,11 @@
 //! The new parts of an expression whose slots are filled.
 ghost use Rattle.std.specs.Prelude.{◌≡◌, ◌≤◌, IfOk, drop, length, unwrap_or};
 ghost use Rattle.expr_tree.specs.Tree.{normal, trees};
-ghost use Rattle.semantics.specs.InPlace.{fill_slots, fill_in_items, slot_value};
+ghost use Rattle.semantics.specs.InPlace.{fill_slots, fill_in_items, filled};
 ghost use Rattle.substitution.specs.Puts.{Puts, PutsAll, MakesAfter};
 ghost use Rattle.builtin_names.specs.Named.{HasBuiltins, names_in};
 
-use crate::slots::{as_one, copies, is_pure_function, is_slot, run_for};
+use crate::slots::{as_one, copies, is_pure_function, run_for, slot_of};
 use expr_tree::{Built, Expr, Exprs, Node};
 use name_table::Names;
 use std::alloc::{AllocError, Global};
@@ -33,11 +33,12 @@ fn fill_slot(
     names: &Names,
     args: &[Expr],
     slot: &Expr,
+    place: u128,
 ) -> Result<Option<Expr>, Built>
     requires names { HasBuiltins names.now }
-    ensures { Puts slot.now (slot_value (names_in names.now) args.now slot.now) result }
+    ensures { Puts slot.now (filled (names_in names.now) args.now slot.now place) result }
 {
-    match run_for(names, args, slot) {
+    match run_for(names, args, slot, place) {
         None => Ok(None),
         Some(run) => Ok(Some(as_one(alloc, names, run)?)),
     }
@@ -58,8 +59,8 @@ pub(crate) fn fill(
     let Node::Normal(head, items) = e.node() else {
         return Ok(None);
     };
-    if is_slot(names, e) {
-        return fill_slot(alloc, names, args, e);
+    if let Some(place) = slot_of(names, e) {
+        return fill_slot(alloc, names, args, e, place);
     }
     if is_pure_function(names, head, items.as_slice()) {
         return Ok(None);

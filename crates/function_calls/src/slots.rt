@@ -14,12 +14,15 @@ use name_table::Names;
 use semantics::Builtin;
 use std::alloc::{AllocError, Global};
 
-/// Whether an expression is a slot, or a sequence of slots.
-pub(crate) fn is_slot(names: &Names, e: &Expr) -> bool
+/// The place, from 0, that a slot or a sequence of slots names.
+pub(crate) fn slot_of(names: &Names, e: &Expr) -> Option<u128>
     requires names { HasBuiltins names.now }
-    ensures { result ≡ i.is_slot (names_in names.now) e.now }
+    ensures { result ≡ i.slot_of (names_in names.now) e.now }
 {
-    is_call(names, Builtin::Slot, e) || is_call(names, Builtin::SlotSequence, e)
+    if is_call(names, Builtin::Slot, e) || is_call(names, Builtin::SlotSequence, e) {
+        return slot_number(items_of(e));
+    }
+    None
 }
 
 /// Whether this head and these elements make a Function of one element, which has slots of its own.
@@ -48,13 +51,17 @@ fn slot_number(items: &[Expr]) -> Option<u128>
     }
 }
 
-/// The arguments that stand for a slot, where it has any.
+/// The arguments that stand for a slot of this place, where it has any.
 #[tactic(auto, using(crate::proofs::Filling::run_steps))]
-pub(crate) fn run_for<'a>(names: &Names, args: &'a [Expr], e: &Expr) -> Option<&'a [Expr]>
+pub(crate) fn run_for<'a>(
+    names: &Names,
+    args: &'a [Expr],
+    e: &Expr,
+    place: u128,
+) -> Option<&'a [Expr]>
     requires names { HasBuiltins names.now }
-    ensures { with_run (names_in names.now) e.now (option_map (λ run. run.now) result) ≡ i.slot_value (names_in names.now) args.now e.now }
+    ensures { with_run (names_in names.now) e.now (option_map (λ run. run.now) result) ≡ i.filled (names_in names.now) args.now e.now place }
 {
-    let place = slot_number(items_of(e))?;
     if place >= args.len() as u128 {
         return None;
     }

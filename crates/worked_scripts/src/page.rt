@@ -38,6 +38,8 @@ static DEFINITIONS: &[Row] = values![
     "Function[{x, y}, {y, x}][1, 2]" => "{2, 1}",
     "(f[#2, ##] &)[a, b]" => "f[b, a, b]",
     "With[{x = 2}, Function[x, x]]" => "Function[x, x]",
+    "With[{x = 3}, Hold[Module[{x, 5}, x]]]" => "Hold[Module[{3, 5}, 3]]",
+    "(Hold[Slot[#]] &)[7]" => "Hold[#7]",
 ];
 
 static NUMBERS: &[Row] = values![

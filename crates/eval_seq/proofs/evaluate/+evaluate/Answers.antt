@@ -11,7 +11,7 @@ use Rattle.eval_seq.specs.Walks.{valued}
 use Rattle.eval_seq.proofs.Walking.{evaluates_out, evaluates_deep, evaluates_err, pass_err, pass_lost, runs_ask, runs_err_or, runs_lost, runs_led, settles_err, settles_pass_out, settles_value}
 use Rattle.eval_seq.proofs.Answered.{pass_answers}
 use Rattle.eval_seq.proofs.Driving.{begins_on, driven_given, driven_goes, driven_ends, driven_out, driven_halts, follows_asked, follows_asked_out, follows_within, follows_within_out, follows_turn, follows_turn_out, follows_done, follows_stays, follows_err, runs_turning, runs_turning_out, runs_put_back}
-use Rattle.eval_seq.proofs.StepLaws.{stepped_err, down_value, down_out, down_on, element_none, element_some, ups_out, ups_value, ups_on, ups_done, ups_held, ups_free, finish_value, finish_out, finish_stays, later_listed, later_whole, settled_threads, settled_out, settled_listed, settled_on, call_value, call_out, call_on, stepped_last, stepped_here}
+use Rattle.eval_seq.proofs.StepLaws.{stepped_err, down_sent, down_value, down_out, down_on, element_none, element_some, ups_out, ups_value, ups_on, ups_done, ups_held, ups_free, finish_value, finish_out, finish_stays, later_listed, later_whole, settled_threads, settled_out, settled_listed, settled_on, call_value, call_out, call_on, stepped_last, stepped_here}
 use Rattle.eval_seq.proofs.SymbolLaws.{pass_err_or, pass_lost_or}
 use Rattle.eval_seq.proofs.SequenceLaws.{runs_held, runs_asked, led_asking, led_next, item_out, item_lost, items_done, head_out, items_out, values_done, values_err, splice_out, splice_on, changed_is, turn_itself, turn_same, turn_out, turn_err, turn_large, turn_worn, turn_again_out, turn_again, passed_settles, settles_err_or, evaluates_lost, normal_out, normal_on, normal_settled, pass_normal}
 use Rattle.eval_seq.proofs.Readiness.{ready_evaluates, ready_runs, ready_turned, ready_stepped, ready_begins, ready_follows}
@@ -392,31 +392,35 @@ pub symbol_rules-drive-requires : goal.symbol_rules-drive-requires
 symbol_rules-drive-requires g t c = let ready = ready_begins (c.in_ok-rules.ensures c.args.left) c.requires in search (rules, ready)
 
 -- down_steps
+pub down_steps-returns-then-accesses : goal.down_steps-returns-then-accesses
+down_steps-returns-then-accesses g t c =
+    down_sent c.args.head.now c.args.items.now c.args.whole.now (rw c.if-accesses.true at c.accesses.ensures) (c.send_access.ensures c.args.left)
+
 pub down_steps-returns-in_err-rules : goal.down_steps-returns-in_err-rules
 down_steps-returns-in_err-rules g t c =
-    stepped_err c.from_residual.ensures.1 (down_out c.args.head.now c.args.items.now c.args.whole.now (rw c.as_slice.ensures at (c.in_err-rules.ensures c.args.left).by))
+    stepped_err c.from_residual.ensures.1 (down_out c.args.head.now c.args.items.now c.args.whole.now (rw c.if-accesses.false at c.accesses.ensures) (rw c.as_slice.ensures at (c.in_err-rules.ensures c.args.left).by))
 
 pub down_steps-returns-in_err-value : goal.down_steps-returns-in_err-value
 down_steps-returns-in_err-value g t c =
     stepped_err c.from_residual-in_err-value.ensures.1
-    (down_out c.args.head.now c.args.items.now c.args.whole.now (begins_on (rw c.as_slice.ensures at (c.in_ok-rules.ensures c.args.left)) c.in_err-value.ensures))
+    (down_out c.args.head.now c.args.items.now c.args.whole.now (rw c.if-accesses.false at c.accesses.ensures) (begins_on (rw c.as_slice.ensures at (c.in_ok-rules.ensures c.args.left)) c.in_err-value.ensures))
 
 pub down_steps-returns-in-Some : goal.down_steps-returns-in-Some
 down_steps-returns-in-Some g t c =
-    down_value c.args.head.now c.args.items.now c.args.whole.now (rw c.as_slice.ensures at (c.in_ok-rules.ensures c.args.left)) (rw c.in-Some.is at c.in_ok-value.ensures)
+    down_value c.args.head.now c.args.items.now c.args.whole.now (rw c.if-accesses.false at c.accesses.ensures) (rw c.as_slice.ensures at (c.in_ok-rules.ensures c.args.left)) (rw c.in-Some.is at c.in_ok-value.ensures)
 
 pub down_steps-returns-in_err-row : goal.down_steps-returns-in_err-row
 down_steps-returns-in_err-row g t c =
     stepped_err c.from_residual-in_err-row.ensures.1
-    (down_on c.args.head.now c.args.items.now c.args.whole.now (rw c.as_slice.ensures at (c.in_ok-rules.ensures c.args.left)) (rw c.in_default.is at c.in_ok-value.ensures) (c.in_err-row.ensures c.args.left).by)
+    (down_on c.args.head.now c.args.items.now c.args.whole.now (rw c.if-accesses.false at c.accesses.ensures) (rw c.as_slice.ensures at (c.in_ok-rules.ensures c.args.left)) (rw c.in_default.is at c.in_ok-value.ensures) (c.in_err-row.ensures c.args.left).by)
 
 pub down_steps-returns : goal.down_steps-returns
 down_steps-returns g t c =
-    down_on c.args.head.now c.args.items.now c.args.whole.now (rw c.as_slice.ensures at (c.in_ok-rules.ensures c.args.left)) (rw c.in_default.is at c.in_ok-value.ensures)
+    down_on c.args.head.now c.args.items.now c.args.whole.now (rw c.if-accesses.false at c.accesses.ensures) (rw c.as_slice.ensures at (c.in_ok-rules.ensures c.args.left)) (rw c.in_default.is at c.in_ok-value.ensures)
     (begins_on (c.in_ok-row.ensures c.args.left) c.drive-2.ensures)
 
-pub down_steps-head_start-requires : goal.down_steps-head_start-requires
-down_steps-head_start-requires g t c = search rules
+pub down_steps-send_access-requires : goal.down_steps-send_access-requires
+down_steps-send_access-requires g t c = search rules
 
 pub down_steps-drive-requires : goal.down_steps-drive-requires
 down_steps-drive-requires g t c = let ready = ready_begins (c.in_ok-rules.ensures c.args.left) c.requires in search (rules, ready)

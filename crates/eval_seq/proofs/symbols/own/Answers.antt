@@ -2,14 +2,11 @@ use Rattle.std.proofs.Common.{rules, sym, ap, Some, ◌∙◌}
 use Rattle.std.specs.Option.{option_copied}
 use Rattle.expr_tree.specs.Tree.{symbol}
 use Rattle.builtin_names.specs.Named.{names_in}
-use Rattle.eval_seq.proofs.SymbolLaws.{pass_err_or, pass_lost_or, pass_sent, pass_own_some, pass_own_none}
+use Rattle.eval_seq.proofs.SymbolLaws.{pass_lost_or, pass_sent, pass_own_some, pass_own_none}
 use Rattle.eval_seq.proofs.symbols.own.Goals as goal
 
-pub returns-in_err-value : goal.returns-in_err-value
-returns-in_err-value g c = λ n. pass_err_or (symbol c.args.symbol) c.from_residual.result c.from_residual.ensures.1 (pass_sent (rw c.if-marks.true at c.marks.ensures) (rw c.symbol.ensures at c.in_err-value.ensures n))
-
 pub returns-then-marks : goal.returns-then-marks
-returns-then-marks g c = λ n. pass_sent (rw c.if-marks.true at c.marks.ensures) (rw c.symbol.ensures at c.in_ok-value.ensures n)
+returns-then-marks g c = λ n. pass_sent c.send_access.result (rw c.if-marks.true at c.marks.ensures) (rw c.symbol.ensures at c.send_access.ensures n)
 
 pub returns-in_err-copy : goal.returns-in_err-copy
 returns-in_err-copy g c = λ n. pass_lost_or (symbol c.args.symbol) c.from_residual-in_err-copy.result c.from_residual-in_err-copy.ensures.1

@@ -1,9 +1,15 @@
-use Rattle.evaluation_steps.proofs.Laws.{played_outer}
-use Rattle.eval_seq.specs.Walks.{valued, halted}
+use Rattle.std.proofs.Common.{sym, ◌∙◌}
+use Rattle.eval_seq.proofs.SymbolLaws.{sent_identical, sent_lost, sent_out, sent_value}
 use Rattle.eval_seq.proofs.symbols.send_access.Goals as goal
 
+pub returns-in_err-sent : goal.returns-in_err-sent
+returns-in_err-sent g c = λ n. sent_lost c.from_residual.ensures.1
+
+pub returns-then-reply : goal.returns-then-reply
+returns-then-reply g c = λ n. sent_identical (rw c.in_ok-sent.ensures at c.in-Ok.ensures) (sym c.equals.ensures ∙ c.if-reply.true)
+
 pub returns-in-Ok : goal.returns-in-Ok
-returns-in-Ok g c = λ n. valued (played_outer c.in-Ok.ensures)
+returns-in-Ok g c = λ n. sent_value (rw c.in_ok-sent.ensures at c.in-Ok.ensures) (sym c.equals.ensures ∙ c.if-reply.false)
 
 pub returns-in-Err : goal.returns-in-Err
-returns-in-Err g c = λ n. halted (played_outer c.in-Err.ensures)
+returns-in-Err g c = λ n. sent_out (rw c.in_ok-sent.ensures at c.in-Err.ensures)
