@@ -8,8 +8,9 @@ ghost use Rattle.function_calls.specs.Applies.{Applies};
 
 use crate::count::nodes_after;
 use crate::fill::fill;
-use crate::parameters::{differ, paired, parameters};
+use crate::parameters::{paired, parameters};
 use builtin_names::Fault;
+use expr_lists::differ;
 use expr_tree::{Built, Expr, MAX_SIZE};
 use frames_scope::place;
 use name_table::Names;

@@ -5,22 +5,9 @@ ghost use Rattle.semantics.specs.InPlace.{as_one, fill_slots, fill_in_items, fil
 ghost use Rattle.builtin_names.specs.Named.{HasBuiltins, names_in};
 
 use crate::slots::{is_pure_function, run_for, slot_of};
-use expr_tree::{Expr, MAX_SIZE, Node};
+use expr_lists::{TOO_MANY, nodes_of_all};
+use expr_tree::{Expr, Node};
 use name_table::Names;
-
-/// One atom more than an expression may have.
-const TOO_MANY: u64 = MAX_SIZE + 1;
-
-#[tactic(auto, using(expr_tree::proofs::Callers::tree_steps))]
-fn nodes_of_all(items: &[Expr]) -> u64
-    ensures { result ≡ min (sizes (trees items.now)) 4000001 }
-{
-    let mut total = 0;
-    for item in items {
-        total = (total + item.size()).min(TOO_MANY);
-    }
-    total
-}
 
 #[tactic(auto, using(expr_tree::proofs::Callers::tree_steps))]
 fn nodes_of_run(_names: &Names, run: &[Expr]) -> u64

@@ -5,7 +5,8 @@ ghost use Rattle.semantics.specs.InPlace.{fill_slots, fill_in_items, filled};
 ghost use Rattle.substitution.specs.Puts.{Puts, PutsAll, MakesAfter};
 ghost use Rattle.builtin_names.specs.Named.{HasBuiltins, names_in};
 
-use crate::slots::{as_one, copies, is_pure_function, run_for, slot_of};
+use crate::slots::{as_one, is_pure_function, run_for, slot_of};
+use expr_lists::copies;
 use expr_tree::{Built, Expr, Exprs, Node};
 use name_table::Names;
 use std::alloc::{AllocError, Global};

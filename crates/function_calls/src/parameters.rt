@@ -1,40 +1,16 @@
 //! The parameters of a Function, and their arguments.
 ghost use Rattle.std.specs.Prelude.{◌≡◌, IfOk};
-ghost use Rattle.expr_tree.specs.Substitution.{among};
 ghost use Rattle.semantics.specs.Scoping as s;
 ghost use Rattle.builtin_names.specs.Named.{HasBuiltins, names_in};
 
-use crate::slots::copies;
 use builtin_names::items_under;
+use expr_lists::copies;
 use expr_tree::{Expr, Node, Sym, Syms};
 use item_list::Items;
 use name_table::Names;
 use semantics::Builtin;
 use std::alloc::{AllocError, Global};
 use substitution::Bindings;
-
-fn is_among(symbol: Sym, symbols: &[Sym]) -> bool
-    ensures { result ≡ among symbol symbols.now }
-{
-    for other in symbols {
-        if symbol == *other {
-            return true;
-        }
-    }
-    false
-}
-
-/// Whether no symbol comes twice.
-pub(crate) fn differ(symbols: &[Sym]) -> bool
-    ensures { result ≡ s.differ symbols.now }
-{
-    for (i, symbol) in symbols.iter().enumerate() {
-        if is_among(*symbol, &symbols[i + 1..]) {
-            return false;
-        }
-    }
-    true
-}
 
 /// The symbols that the elements of a list are, where all are symbols.
 #[tactic(auto, using(crate::proofs::Arguments::symbol_steps))]

@@ -1,5 +1,5 @@
 //! Slots, and what stands in their places.
-ghost use Rattle.std.specs.Prelude.{◌≡◌, ◌||◌, IfOk};
+ghost use Rattle.std.specs.Prelude.{◌≡◌, ◌||◌};
 ghost use Rattle.std.specs.Option.{option_map};
 ghost use Rattle.expr_tree.specs.Limits.{Makes};
 ghost use Rattle.expr_tree.specs.Tree.{trees};
@@ -8,11 +8,11 @@ ghost use Rattle.builtin_names.specs.Named.{HasBuiltins, names_in};
 ghost use Rattle.function_calls.specs.Runs.{with_run};
 
 use builtin_names::{is_call, is_name, items_of, make};
-use expr_tree::{Built, Expr, Exprs, Node};
-use item_list::Items;
+use expr_lists::copies;
+use expr_tree::{Built, Expr, Node};
 use name_table::Names;
 use semantics::Builtin;
-use std::alloc::{AllocError, Global};
+use std::alloc::Global;
 
 /// The place, from 0, that a slot or a sequence of slots names.
 pub(crate) fn slot_of(names: &Names, e: &Expr) -> Option<u128>
@@ -71,17 +71,6 @@ pub(crate) fn run_for<'a>(
     } else {
         Some(&args[place..])
     }
-}
-
-/// The elements of a slice.
-pub(crate) fn copies(alloc: Global, items: &[Expr]) -> Result<Exprs, AllocError>
-    ensures { IfOk result (λ es. es ≡ items.now) }
-{
-    let mut made = Items::new(alloc);
-    for item in items {
-        made.push(item.copy(alloc)?)?;
-    }
-    Ok(made)
 }
 
 /// A run as one expression.

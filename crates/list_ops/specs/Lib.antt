@@ -5,4 +5,3 @@ pub mod Flat
 pub mod Fronts
 pub mod Spans
 pub mod Repeats
-pub mod Rows

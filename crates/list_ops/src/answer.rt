@@ -1,5 +1,5 @@
 //! What a row answers.
-ghost use Rattle.std.specs.Prelude.{◌≡◌, ◌++◌, IfOk, OnOk};
+ghost use Rattle.std.specs.Prelude.{◌≡◌, ◌++◌, OnOk};
 ghost use Rattle.expr_tree.specs.Tree.{call};
 ghost use Rattle.semantics.specs.Names.{make};
 ghost use Rattle.semantics.specs.Worked.{Gives};
@@ -8,7 +8,6 @@ ghost use Rattle.builtin_names.specs.Results.{Works};
 
 use builtin_names::{Fault, name};
 use expr_tree::{Expr, Exprs};
-use item_list::Items;
 use name_table::Names;
 use semantics::Builtin;
 use std::alloc::{AllocError, Global};
@@ -48,13 +47,4 @@ pub(crate) fn put_behind(alloc: Global, items: &mut Exprs, more: &[Expr]) -> Res
         items.push(item.copy(alloc)?)?;
     }
     Ok(())
-}
-
-/// The elements of a slice.
-pub(crate) fn copies(alloc: Global, items: &[Expr]) -> Result<Exprs, AllocError>
-    ensures { IfOk result (λ es. es ≡ items.now) }
-{
-    let mut made = Items::new(alloc);
-    put_behind(alloc, &mut made, items)?;
-    Ok(made)
 }

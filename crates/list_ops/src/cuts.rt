@@ -6,8 +6,9 @@ ghost use Rattle.builtin_names.specs.Results.{Works};
 ghost use Rattle.list_ops.specs.Fronts.{front_of};
 ghost use Rattle.list_ops.specs.Spans.{end_span, list_span, inside, outside};
 
-use crate::answer::{call, copies, put_behind};
+use crate::answer::{call, put_behind};
 use builtin_names::{Fault, items_under};
+use expr_lists::copies;
 use expr_tree::{Expr, Exprs, Node};
 use name_table::Names;
 use semantics::Builtin;

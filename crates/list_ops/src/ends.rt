@@ -2,8 +2,9 @@
 ghost use Rattle.semantics.specs.Lists as l;
 ghost use Rattle.builtin_names.specs.Results.{Works};
 
-use crate::answer::{call, copies, put_behind, same};
+use crate::answer::{call, put_behind, same};
 use builtin_names::Fault;
+use expr_lists::copies;
 use expr_tree::{Expr, Exprs, Node};
 use item_list::Items;
 use std::alloc::Global;

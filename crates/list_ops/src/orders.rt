@@ -5,9 +5,10 @@ ghost use Rattle.builtin_names.specs.Named.{HasBuiltins, names_in};
 ghost use Rattle.builtin_names.specs.Results.{Works};
 ghost use Rattle.list_ops.specs.Repeats.{repeats};
 
-use crate::answer::{call, copies, make, put_behind};
+use crate::answer::{call, make, put_behind};
 use attr_steps::order;
 use builtin_names::{Fault, items_under};
+use expr_lists::copies;
 use expr_tree::{Expr, Exprs, Node};
 use item_list::Items;
 use name_table::Names;

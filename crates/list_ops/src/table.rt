@@ -3,7 +3,7 @@ ghost use Rattle.std.specs.Prelude.{◌≡◌, IfSome, is_some};
 ghost use Rattle.semantics.specs.Table.{worked};
 ghost use Rattle.builtin_names.specs.Named.{HasBuiltins, names_in};
 ghost use Rattle.builtin_names.specs.Results.{Works};
-ghost use Rattle.list_ops.specs.Rows.{is_of_lists};
+ghost use Rattle.row_kinds.specs.Kinds.{is_of_lists};
 
 use crate::applied::{row_apply, row_itself, row_map, row_release_hold, row_total};
 use crate::cuts::{row_drop, row_most, row_take};

@@ -1,16 +1,17 @@
-//! All rows of the built-in table that are functions of their elements: `rewrite` asks the crates of such rows in turn, and answers
-//! `None` for a row that is none of theirs.
+//! All rows of the built-in table that are functions of their elements: `rewrite` asks the crate of the row's kind, and answers `None` for
+//! a row that is none of theirs.
 #![tactic(auto)]
 
 ghost use Rattle.std.specs.Prelude.{◌≡◌, IfSome, is_some};
 ghost use Rattle.semantics.specs.Table.{worked};
 ghost use Rattle.builtin_names.specs.Named.{HasBuiltins, names_in};
 ghost use Rattle.builtin_names.specs.Results.{Works};
-ghost use Rattle.rows_elements.specs.Rows.{is_kept_here};
+ghost use Rattle.row_kinds.specs.Kinds.{is_worked};
 
 use builtin_names::Fault;
 use expr_tree::{Expr, Exprs};
 use name_table::Names;
+use row_kinds::{Kind, kind_of};
 use semantics::Builtin;
 use std::alloc::Global;
 
@@ -22,20 +23,22 @@ pub fn rewrite(
     items: &Exprs,
 ) -> Option<Result<Option<Expr>, Fault>>
     requires names { HasBuiltins names.now }
-    ensures known { is_some result ≡ is_kept_here row }
+    ensures known { is_some result ≡ is_worked row }
     ensures value { IfSome result (λ r. Works (worked (names_in names.now) row items.now) r) }
 {
-    if let Some(made) = rows_tests::rewrite(row, names, items) {
-        return Some(made);
+    match kind_of(row) {
+        Kind::Numbers => rows_numbers::rewrite(alloc, row, names, items),
+        Kind::Tests => rows_tests::rewrite(row, names, items),
+        Kind::Lists => list_ops::rewrite(alloc, row, names, items),
+        Kind::Parts => rows_parts::rewrite(alloc, row, names, items),
+        Kind::Strings => rows_strings::rewrite(alloc, row, names, items),
+        Kind::Plain
+        | Kind::KernelName
+        | Kind::Form
+        | Kind::Iteration
+        | Kind::Change
+        | Kind::Matching
+        | Kind::Replacing
+        | Kind::Unbuilt => None,
     }
-    if let Some(made) = list_ops::rewrite(alloc, row, names, items) {
-        return Some(made);
-    }
-    if let Some(made) = rows_strings::rewrite(alloc, row, names, items) {
-        return Some(made);
-    }
-    if let Some(made) = rows_parts::rewrite(alloc, row, names, items) {
-        return Some(made);
-    }
-    rows_numbers::rewrite(alloc, row, names, items)
 }

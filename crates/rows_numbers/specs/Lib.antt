@@ -1,2 +1,1 @@
 pub mod Better
-pub mod Rows

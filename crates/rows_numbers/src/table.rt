@@ -3,7 +3,7 @@ ghost use Rattle.std.specs.Prelude.{◌≡◌, IfSome, is_some};
 ghost use Rattle.semantics.specs.Table.{worked};
 ghost use Rattle.builtin_names.specs.Named.{HasBuiltins, names_in};
 ghost use Rattle.builtin_names.specs.Results.{Works};
-ghost use Rattle.rows_numbers.specs.Rows.{is_of_numbers};
+ghost use Rattle.row_kinds.specs.Kinds.{is_of_numbers};
 
 use crate::{
     row_abs, row_even_q, row_factorial, row_gcd, row_max, row_min, row_mod, row_odd_q,

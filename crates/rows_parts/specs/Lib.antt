@@ -1,4 +1,3 @@
 pub mod Finds
 pub mod Cut
 pub mod Widths
-pub mod Rows

@@ -3,7 +3,7 @@ ghost use Rattle.std.specs.Prelude.{◌≡◌, IfSome, is_some};
 ghost use Rattle.semantics.specs.Table.{worked};
 ghost use Rattle.builtin_names.specs.Named.{HasBuiltins, names_in};
 ghost use Rattle.builtin_names.specs.Results.{Works};
-ghost use Rattle.rows_parts.specs.Rows.{is_of_parts};
+ghost use Rattle.row_kinds.specs.Kinds.{is_of_parts};
 
 use crate::parts::row_part;
 use crate::pieces::row_partition;

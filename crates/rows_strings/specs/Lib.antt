@@ -1,2 +1,1 @@
 pub mod TextOf
-pub mod Rows

@@ -3,7 +3,7 @@ ghost use Rattle.std.specs.Prelude.{◌≡◌, IfSome, is_some};
 ghost use Rattle.semantics.specs.Table.{worked};
 ghost use Rattle.builtin_names.specs.Named.{HasBuiltins, names_in};
 ghost use Rattle.builtin_names.specs.Results.{Works};
-ghost use Rattle.rows_strings.specs.Rows.{is_of_strings};
+ghost use Rattle.row_kinds.specs.Kinds.{is_of_strings};
 
 use crate::{row_characters, row_string_join, row_string_length, row_string_reverse};
 use builtin_names::Fault;

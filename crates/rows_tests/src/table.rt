@@ -3,7 +3,7 @@ ghost use Rattle.std.specs.Prelude.{◌≡◌, IfSome, is_some};
 ghost use Rattle.semantics.specs.Table.{worked};
 ghost use Rattle.builtin_names.specs.Named.{HasBuiltins, names_in};
 ghost use Rattle.builtin_names.specs.Results.{Works};
-ghost use Rattle.rows_tests.specs.Rows.{is_test};
+ghost use Rattle.row_kinds.specs.Kinds.{is_test};
 
 use crate::comparison::{row_greater, row_greater_equal, row_less, row_less_equal};
 use crate::identity::{row_equal, row_same_q, row_unequal, row_unsame_q};

@@ -1,5 +1,5 @@
 //! What a row answers, from what its parts answered.
-ghost use Rattle.std.specs.Prelude.{◌≡◌, ◌+◌, ◌<◌, ◌≤◌, [], ◌∷◌, Err, IfOk};
+ghost use Rattle.std.specs.Prelude.{◌≡◌, ◌+◌, ◌<◌, ◌≤◌, Err};
 ghost use Rattle.expr_tree.specs.Tree.{Tree, size, depth};
 ghost use Rattle.expr_tree.specs.Limits.{Assembles};
 ghost use Rattle.semantics.specs.Worked.{Worked, Gives};
@@ -7,20 +7,8 @@ ghost use Rattle.int_ops.specs.Exact.{Answers};
 ghost use Rattle.builtin_names.specs.Results.{IsFaultOf, Makes, Works};
 
 use builtin_names::Fault;
-use expr_tree::{Built, Expr, Exprs, MAX_SIZE};
+use expr_tree::{Built, Expr, MAX_SIZE};
 use int_ops::OutOfRange;
-use item_list::Items;
-use std::alloc::{AllocError, Global};
-
-/// The list of two expressions.
-pub(crate) fn pair(alloc: Global, first: Expr, second: Expr) -> Result<Exprs, AllocError>
-    ensures { IfOk result (λ items. items ≡ first ∷ second ∷ []) }
-{
-    let mut items = Items::new(alloc);
-    items.push(first)?;
-    items.push(second)?;
-    Ok(items)
-}
 
 /// The answer for a number that is judged.
 pub(crate) fn of_number(number: Result<i128, OutOfRange>) -> Result<Option<Expr>, Fault>

@@ -6,8 +6,9 @@ ghost use Rattle.builtin_names.specs.Named.{HasBuiltins, names_in};
 ghost use Rattle.builtin_names.specs.Results.{Makes, Works};
 ghost use Rattle.sum_forms.specs.Splits.{power_in};
 
-use crate::answers::{of_number, pair};
+use crate::answers::of_number;
 use builtin_names::{Fault, is_name, make};
+use expr_lists::two;
 use expr_tree::{Expr, Exprs, Node, pair_of};
 use int_ops::{is_even, mul};
 use name_table::Names;
@@ -89,7 +90,7 @@ fn power_of(
     let Ok(product) = mul(inner.exponent, exponent) else {
         return Err(Fault::Range);
     };
-    let items = pair(alloc, inner.base.copy(alloc)?, Expr::int(product))?;
+    let items = two(alloc, inner.base.copy(alloc)?, Expr::int(product))?;
     Ok(Some(make(alloc, names, Builtin::Power, items)?))
 }
 

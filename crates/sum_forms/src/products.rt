@@ -11,11 +11,12 @@ ghost use Rattle.builtin_names.specs.Results.{Works};
 ghost use Rattle.sum_forms.specs.Planned.{Plans, Written, with_one};
 ghost use Rattle.sum_forms.specs.Taken.{Took};
 
-use crate::answers::{given, pair, within};
+use crate::answers::{given, within};
 use crate::groups::{Group, add_to, are_in_range};
 use crate::powers::power_in;
 use crate::terms::Terms;
 use builtin_names::{Fault, make};
+use expr_lists::two;
 use expr_tree::{Built, Expr, Exprs, Node};
 use int_ops::Product;
 use name_table::Names;
@@ -141,6 +142,6 @@ fn factor(alloc: Global, names: &Names, exponent: i128, base: &Expr) -> Result<E
     if exponent == 1 {
         return Ok(within(base.copy(alloc)?));
     }
-    let items = pair(alloc, base.copy(alloc)?, Expr::int(exponent))?;
+    let items = two(alloc, base.copy(alloc)?, Expr::int(exponent))?;
     make(alloc, names, Builtin::Power, items)
 }

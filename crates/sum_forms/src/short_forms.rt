@@ -8,8 +8,9 @@ ghost use Rattle.semantics.specs.declared.builtin.Builtin as rows;
 ghost use Rattle.builtin_names.specs.Named.{HasBuiltins, names_in};
 ghost use Rattle.builtin_names.specs.Results.{Makes, Works};
 
-use crate::answers::{around, given, pair};
+use crate::answers::{around, given};
 use builtin_names::{Fault, make};
+use expr_lists::two;
 use expr_tree::{Built, Expr, Exprs, pair_of};
 use name_table::Names;
 use semantics::Builtin;
@@ -24,7 +25,7 @@ pub fn minus(alloc: Global, names: &Names, items: &Exprs) -> Result<Option<Expr>
     let [x] = items.as_slice() else {
         return Ok(None);
     };
-    let items = pair(alloc, Expr::int(-1), x.copy(alloc)?)?;
+    let items = two(alloc, Expr::int(-1), x.copy(alloc)?)?;
     Ok(Some(make(alloc, names, Builtin::Times, items)?))
 }
 
@@ -37,7 +38,7 @@ pub fn subtract(alloc: Global, names: &Names, items: &Exprs) -> Result<Option<Ex
     let Some((a, b)) = pair_of(items.as_slice()) else {
         return Ok(None);
     };
-    let items = pair(alloc, Expr::int(-1), b.copy(alloc)?)?;
+    let items = two(alloc, Expr::int(-1), b.copy(alloc)?)?;
     let negated = make(alloc, names, Builtin::Times, items);
     given(beside(alloc, names, Builtin::Plus, a, negated))
 }
@@ -51,7 +52,7 @@ pub fn divide(alloc: Global, names: &Names, items: &Exprs) -> Result<Option<Expr
     let Some((a, b)) = pair_of(items.as_slice()) else {
         return Ok(None);
     };
-    let items = pair(alloc, b.copy(alloc)?, Expr::int(-1))?;
+    let items = two(alloc, b.copy(alloc)?, Expr::int(-1))?;
     let inverse = make(alloc, names, Builtin::Power, items);
     given(beside(alloc, names, Builtin::Times, a, inverse))
 }
@@ -70,7 +71,7 @@ fn beside(
 {
     match part {
         Ok(part) => {
-            let items = pair(alloc, first.copy(alloc)?, part)?;
+            let items = two(alloc, first.copy(alloc)?, part)?;
             Ok(make(alloc, names, row, items)?)
         }
         Err(fault) => Err(around(fault, first.size() + 1)),
