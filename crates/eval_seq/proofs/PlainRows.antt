@@ -5,10 +5,9 @@ use Rattle.semantics.specs.declared.builtin.Builtin.{Builtin}
 use Rattle.semantics.specs.Names.{Names}
 use Rattle.semantics.specs.Program.{Prog}
 use Rattle.semantics.specs.Table.{row, worked, as_program}
-use Rattle.rows_elements.specs.Rows.{is_kept_here}
-use Rattle.eval_seq.specs.Built.{is_plain}
+use Rattle.row_kinds.specs.Kinds.{is_plain, is_worked}
 
-pub element_works : (names : Names) (r : Builtin) (stay : Prog) (items : List Tree) → is_kept_here r ≡ true → row names r stay items ≡ as_program stay (worked names r items)
+pub element_works : (names : Names) (r : Builtin) (stay : Prog) (items : List Tree) → is_worked r ≡ true → row names r stay items ≡ as_program stay (worked names r items)
 unfolding row
 element_works names Builtin.CompoundExpression stay items e = absurd (Prim.cc e)
 element_works names Builtin.If stay items e = absurd (Prim.cc e)

@@ -18,13 +18,12 @@ use Rattle.builtin_names.specs.declared.fault.Fault.TheVariants as fa
 use Rattle.evaluation_steps.specs.declared.Halt.{Halt}
 use Rattle.evaluation_steps.specs.Stopping.{HaltsFor}
 use Rattle.machine_steps.specs.Steps.{Starts}
-use Rattle.rows_elements.specs.Rows.{is_kept_here}
-use Rattle.machine_rows.specs.Frames.{has_frame, left}
+use Rattle.machine_rows.specs.Frames.{left}
 use Rattle.machine_rows.specs.declared.frame.Frame.{Frame}
 use Rattle.eval_seq.specs.declared.ending.Ending.{Ending}
 use Rattle.eval_seq.specs.declared.ending.Missing.{Missing}
 use Rattle.eval_seq.specs.declared.machine.Start.{Start}
-use Rattle.eval_seq.specs.Built.{is_plain}
+use Rattle.row_kinds.specs.Kinds.{is_plain, is_worked, has_machine}
 use Rattle.eval_seq.specs.Driven.{Opens}
 use Rattle.eval_seq.proofs.PlainRows.{element_works, plain_stays}
 
@@ -84,7 +83,7 @@ module _ {set : Setting} where
   pub row_plain : (b : Builtin) (items : List Tree) → is_plain b ≡ true → Opens set (λ rest. row set.names b rest items) (Ok (Start.Given None))
   row_plain b items e = record { by = λ rest. plain_stays set.names b rest items e }
 
-  pub row_made : (b : Builtin) (items : List Tree) {r : Result Start Ending} → is_kept_here b ≡ true → Opens set (λ rest. as_program rest (worked set.names b items)) r → Opens set (λ rest. row set.names b rest items) r
+  pub row_made : (b : Builtin) (items : List Tree) {r : Result Start Ending} → is_worked b ≡ true → Opens set (λ rest. as_program rest (worked set.names b items)) r → Opens set (λ rest. row set.names b rest items) r
   row_made b items e a = opens_is (λ rest. element_works set.names b rest items e) a
 
   pub row_machine : {E : Type 0} (b : Builtin) (items : List Tree) {frame : Frame} → Starts {E = E} (left set.names) (λ rest. row set.names b rest items) (Ok (Some frame)) →
@@ -94,8 +93,8 @@ module _ {set : Setting} where
   pub row_stays : {E : Type 0} (b : Builtin) (items : List Tree) → Starts {E = E} (left set.names) (λ rest. row set.names b rest items) (Ok None) → Opens set (λ rest. row set.names b rest items) (Ok (Start.Given None))
   row_stays b items a = record { by = a.by }
 
-  pub row_unbuilt : (b : Builtin) (items : List Tree) → is_plain b ≡ false → is_kept_here b ≡ false → has_frame b ≡ false → Opens set (λ rest. row set.names b rest items) (Err (Ending.Unbuilt (Missing.Row b)))
-  row_unbuilt b items e f g = record { by = (is_none (is_plain b) (is_kept_here b) (has_frame b) e f g, items, λ rest. refl) }
+  pub row_unbuilt : (b : Builtin) (items : List Tree) → is_plain b ≡ false → is_worked b ≡ false → has_machine b ≡ false → Opens set (λ rest. row set.names b rest items) (Err (Ending.Unbuilt (Missing.Row b)))
+  row_unbuilt b items e f g = record { by = (is_none (is_plain b) (is_worked b) (has_machine b) e f g, items, λ rest. refl) }
     where
       is_none : (x y z : Bool) → x ≡ false → y ≡ false → z ≡ false → (x || (y || z)) ≡ false
       is_none false false false e f g = refl

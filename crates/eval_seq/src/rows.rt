@@ -9,7 +9,7 @@ ghost use Rattle.builtin_names.specs.Results.{IsFaultOf, Works};
 ghost use Rattle.evaluation_steps.specs.Stopping.{AreBounded, HaltsFor};
 ghost use Rattle.evaluation_steps.specs.declared.Halt.{Halt};
 ghost use Rattle.machine_steps.specs.Setup.{setting_of};
-ghost use Rattle.eval_seq.specs.Built.{is_plain, is_plain_form, is_plain_name};
+ghost use Rattle.row_kinds.specs.Kinds.{is_plain};
 ghost use Rattle.eval_seq.specs.Driven.{Opens};
 
 use crate::ending::{Ending, Missing};
@@ -20,6 +20,7 @@ use expr_tree::{Expr, Exprs, Limits, Stop};
 use function_calls::apply;
 use machine_rows::Frame;
 use machine_steps::Scene;
+use row_kinds::{Kind, kind_of};
 use rows_elements::rewrite;
 use semantics::Builtin;
 
@@ -84,63 +85,18 @@ pub(crate) fn function_start(scene: &Scene, parts: &[Expr], args: &[Expr]) -> Re
 fn is_plain(row: Builtin) -> bool
     ensures { result ≡ is_plain row }
 {
-    is_plain_form(row) || is_plain_name(row)
-}
-
-/// Whether it is a form without an equation.
-fn is_plain_form(row: Builtin) -> bool
-    ensures { result ≡ is_plain_form row }
-{
-    match row {
-        Builtin::Hold
-        | Builtin::HoldComplete
-        | Builtin::HoldPattern
-        | Builtin::Unevaluated
-        | Builtin::Pattern
-        | Builtin::PatternTest
-        | Builtin::Condition
-        | Builtin::RuleDelayed
-        | Builtin::Rule
-        | Builtin::Function
-        | Builtin::Verbatim
-        | Builtin::Blank
-        | Builtin::BlankSequence
-        | Builtin::BlankNullSequence
-        | Builtin::Alternatives
-        | Builtin::List
-        | Builtin::Slot
-        | Builtin::SlotSequence
-        | Builtin::Sequence
-        | Builtin::FullForm
-        | Builtin::InputForm => true,
-        _ => false,
-    }
-}
-
-/// Whether it is a name that stands alone, and has no equation.
-fn is_plain_name(row: Builtin) -> bool
-    ensures { result ≡ is_plain_name row }
-{
-    match row {
-        Builtin::Null
-        | Builtin::True
-        | Builtin::False
-        | Builtin::EvaluationObject
-        | Builtin::Method
-        | Builtin::Failed
-        | Builtin::Aborted
-        | Builtin::Flat
-        | Builtin::Orderless
-        | Builtin::Listable
-        | Builtin::HoldFirst
-        | Builtin::HoldRest
-        | Builtin::HoldAll
-        | Builtin::HoldAllComplete
-        | Builtin::SequenceHold
-        | Builtin::OneIdentity
-        | Builtin::Protected
-        | Builtin::KernelID
-        | Builtin::KernelCount => true,
-        _ => false,
+    match kind_of(row) {
+        Kind::Plain | Kind::KernelName => true,
+        Kind::Numbers
+        | Kind::Tests
+        | Kind::Lists
+        | Kind::Parts
+        | Kind::Strings
+        | Kind::Form
+        | Kind::Iteration
+        | Kind::Change
+        | Kind::Matching
+        | Kind::Replacing
+        | Kind::Unbuilt => false,
     }
 }

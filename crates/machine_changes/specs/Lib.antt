@@ -1,4 +1,3 @@
-pub mod Rows
 pub mod Results
 pub mod Named
 pub mod Shapes

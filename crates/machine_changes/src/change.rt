@@ -5,7 +5,7 @@ ghost use Rattle.semantics.specs.Table as t;
 ghost use Rattle.builtin_names.specs.Named.{HasBuiltins, names_in};
 ghost use Rattle.machine_steps.specs.Setup.{setting_of};
 ghost use Rattle.machine_steps.specs.Steps.{Falls, Starts, Stepped};
-ghost use Rattle.machine_changes.specs.Rows.{is_change};
+ghost use Rattle.row_kinds.specs.Kinds.{is_change};
 ghost use Rattle.machine_changes.specs.Left.{left, questions};
 ghost use Rattle.machine_changes.specs.Results.{done_with};
 

@@ -1,20 +1,13 @@
 -- The forms with iterators.
---     is_iteration          the rows of these forms
 --     row_of                the row of a form
 --     finish                what a form makes of the values of its body
-use Rattle.std.specs.Prelude.{List, Bool, true, false}
+use Rattle.std.specs.Prelude.{List}
 use Rattle.expr_tree.specs.Tree.{Tree}
 use Rattle.semantics.specs.declared.builtin.Builtin.{Builtin}
 use Rattle.semantics.specs.Names.{Names, make}
 use Rattle.semantics.specs.Program.{Prog, Done}
 use Rattle.semantics.specs.Control.{null}
 use Rattle.machine_iterators.specs.declared.body.Form.{Form}
-
-abbrev pub is_iteration : Builtin → Bool
-is_iteration Builtin.Do = true
-is_iteration Builtin.Table = true
-is_iteration Builtin.Sum = true
-is_iteration _ = false
 
 abbrev pub row_of : Form → Builtin
 row_of Form.Do = Builtin.Do

@@ -7,7 +7,8 @@ ghost use Rattle.semantics.specs.Table.{row as row_program};
 ghost use Rattle.builtin_names.specs.Named.{HasBuiltins, names_in};
 ghost use Rattle.machine_steps.specs.Setup.{setting_of};
 ghost use Rattle.machine_steps.specs.Steps.{Stepped, Starts, Falls};
-ghost use Rattle.machine_iterators.specs.Rows.{is_iteration, row_of, finish};
+ghost use Rattle.row_kinds.specs.Kinds.{is_iteration};
+ghost use Rattle.machine_iterators.specs.Rows.{row_of, finish};
 ghost use Rattle.machine_iterators.specs.Left.{left, left_at, left_going, questions, questions_at, values_in};
 ghost use Rattle.machine_iterators.specs.Shapes.{IsShape};
 

@@ -1,10 +1,8 @@
 -- The program that is left of a row, and the questions that are left.
---     is_replacing          the rows of this crate
 --     left, left_machine    the program that is left; what stays does not matter once a machine has started
 --     questions             the most questions and turns that are left, whatever the answers are
-use Rattle.std.specs.Prelude.{ℕ, List, Bool, true, false, Option, None}
+use Rattle.std.specs.Prelude.{ℕ, List, Option, None}
 use Rattle.expr_tree.specs.Tree.{Tree}
-use Rattle.semantics.specs.declared.builtin.Builtin.{Builtin}
 use Rattle.semantics.specs.Names.{Names}
 use Rattle.semantics.specs.Rule.{Rule}
 use Rattle.semantics.specs.Program.{Prog}
@@ -12,14 +10,6 @@ use Rattle.rule_frames.specs.Worst.{worst}
 use Rattle.machine_matching.specs.declared.replacing.Replacing.{Replacing}
 use Rattle.machine_matching.specs.declared.tally.Tally.{Tally}
 use Rattle.machine_matching.specs.Walks.{left_walk}
-
-abbrev pub is_replacing : Builtin → Bool
-is_replacing Builtin.MatchQ = true
-is_replacing Builtin.MemberQ = true
-is_replacing Builtin.FreeQ = true
-is_replacing Builtin.Count = true
-is_replacing Builtin.Cases = true
-is_replacing _ = false
 
 -- before the first expression
 abbrev pub walking : List Rule → Tally → List Tree → Replacing

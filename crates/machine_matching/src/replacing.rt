@@ -6,7 +6,8 @@ ghost use Rattle.semantics.specs.Table as t;
 ghost use Rattle.builtin_names.specs.Named.{HasBuiltins, names_in};
 ghost use Rattle.machine_steps.specs.Setup.{setting_of};
 ghost use Rattle.machine_steps.specs.Steps.{Starts, Stepped, Falls};
-ghost use Rattle.machine_matching.specs.Left.{is_replacing, left, questions, walking};
+ghost use Rattle.row_kinds.specs.Kinds.{is_matching};
+ghost use Rattle.machine_matching.specs.Left.{left, questions, walking};
 ghost use Rattle.machine_matching.specs.Picks.{Picks};
 
 use crate::parts::parts_of;
@@ -145,7 +146,7 @@ pub fn start(
     items: &[Expr],
 ) -> Option<Result<Option<Replacing>, AllocError>>
     requires names { HasBuiltins names.now }
-    ensures known { is_some result ≡ is_replacing row }
+    ensures known { is_some result ≡ is_matching row }
     ensures started { IfSome result (λ r. Starts (left (names_in names.now)) (λ stay. t.row (names_in names.now) row stay items.now) r) }
 {
     match row {

@@ -1,10 +1,8 @@
 -- The program that is left of a row, and the questions that are left.
---     is_rewriting          the rows of this crate
 --     left, left_machine, left_all      the program that is left; what stays does not matter once a machine has started
 --     questions             no fewer than the questions and turns that are left, whatever the answers are
-use Rattle.std.specs.Prelude.{ℕ, Bool, true, false, Option}
+use Rattle.std.specs.Prelude.{ℕ, Option}
 use Rattle.expr_tree.specs.Tree.{Tree}
-use Rattle.semantics.specs.declared.builtin.Builtin.{Builtin}
 use Rattle.semantics.specs.Names.{Names}
 use Rattle.semantics.specs.Program.{Prog, Done}
 use Rattle.rule_frames.specs.Worst.{worst}
@@ -12,11 +10,6 @@ use Rattle.machine_replacing.specs.declared.rewriting.Rewriting.{Rewriting}
 use Rattle.machine_replacing.specs.declared.walk.Walk.{Walk}
 use Rattle.machine_replacing.specs.Rounds.{left_rounds}
 use Rattle.machine_replacing.specs.Walks.{left_walk}
-
-abbrev pub is_rewriting : Builtin → Bool
-is_rewriting Builtin.ReplaceAll = true
-is_rewriting Builtin.ReplaceRepeated = true
-is_rewriting _ = false
 
 -- of ReplaceAll
 abbrev pub left_all : Names → Walk → Option Tree → Prog

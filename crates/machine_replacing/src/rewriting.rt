@@ -6,7 +6,8 @@ ghost use Rattle.semantics.specs.Table as t;
 ghost use Rattle.builtin_names.specs.Named.{HasBuiltins, names_in};
 ghost use Rattle.machine_steps.specs.Setup.{setting_of};
 ghost use Rattle.machine_steps.specs.Steps.{Starts, Stepped, Falls};
-ghost use Rattle.machine_replacing.specs.Left.{asked_all, is_rewriting, left, left_all, left_machine, questions};
+ghost use Rattle.row_kinds.specs.Kinds.{is_replacing};
+ghost use Rattle.machine_replacing.specs.Left.{asked_all, left, left_all, left_machine, questions};
 ghost use Rattle.machine_replacing.specs.Moving.{Goes};
 
 use crate::repeated::Repeated;
@@ -76,7 +77,7 @@ pub fn start(
     items: &[Expr],
 ) -> Option<Result<Option<Rewriting>, AllocError>>
     requires names { HasBuiltins names.now }
-    ensures known { is_some result ≡ is_rewriting row }
+    ensures known { is_some result ≡ is_replacing row }
     ensures started { IfSome result (λ r. Starts (left (names_in names.now)) (λ stay. t.row (names_in names.now) row stay items.now) r) }
 {
     match row {

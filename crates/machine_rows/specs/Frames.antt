@@ -1,47 +1,20 @@
 -- The machines as one.
---     has_form, has_frame   the rows of control and scoping forms; the rows that have a machine
 --     left                  the program that is left, before an answer and after
 --     questions             no fewer than the questions that are left
-use Rattle.std.specs.Prelude.{ℕ, Bool, true, false, ◌||◌, Option}
+use Rattle.std.specs.Prelude.{ℕ, Option}
 use Rattle.expr_tree.specs.Tree.{Tree}
-use Rattle.semantics.specs.declared.builtin.Builtin.{Builtin}
 use Rattle.semantics.specs.Names.{Names}
 use Rattle.semantics.specs.Program.{Prog}
 use Rattle.frames_control.specs.Frames as control
 use Rattle.frames_scope.specs.Left.{left_with}
 use Rattle.rule_frames.specs.Questions as rules
-use Rattle.machine_changes.specs.Rows.{is_change}
 use Rattle.machine_changes.specs.Left as change
-use Rattle.machine_iterators.specs.Rows.{is_iteration}
-use Rattle.machine_matching.specs.Left.{is_replacing}
 use Rattle.machine_matching.specs.Left as replacing
-use Rattle.machine_replacing.specs.Left.{is_rewriting}
 use Rattle.machine_replacing.specs.Left as rewriting
 use Rattle.machine_iterators.specs.Left as iteration
 use Rattle.machine_rows.specs.Asking.{asks}
 use Rattle.machine_rows.specs.Rows.{left_module, left_block, left_rules}
 use Rattle.machine_rows.specs.declared.frame.Frame.{Frame}
-
-abbrev pub has_form : Builtin → Bool
-has_form Builtin.CompoundExpression = true
-has_form Builtin.If = true
-has_form Builtin.Which = true
-has_form Builtin.And = true
-has_form Builtin.Or = true
-has_form Builtin.While = true
-has_form Builtin.Nest = true
-has_form Builtin.NestList = true
-has_form Builtin.Fold = true
-has_form Builtin.FoldList = true
-has_form Builtin.FixedPoint = true
-has_form Builtin.Select = true
-has_form Builtin.Module = true
-has_form Builtin.Block = true
-has_form Builtin.With = true
-has_form _ = false
-
-abbrev pub has_frame : Builtin → Bool
-has_frame row = has_form row || (is_change row || (is_iteration row || (is_replacing row || is_rewriting row)))
 
 abbrev pub left : Names → Frame → Prog → Option Tree → Prog
 left names (Frame.Control f) stay answer = control.left names f answer

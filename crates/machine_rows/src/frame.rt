@@ -7,7 +7,8 @@ ghost use Rattle.semantics.specs.Table as t;
 ghost use Rattle.builtin_names.specs.Named.{HasBuiltins, names_in};
 ghost use Rattle.machine_steps.specs.Setup.{setting_of};
 ghost use Rattle.machine_steps.specs.Steps.{Falls, Starts, Stepped};
-ghost use Rattle.machine_rows.specs.Frames.{has_form, has_frame, left, questions};
+ghost use Rattle.row_kinds.specs.Kinds.{has_form, has_machine};
+ghost use Rattle.machine_rows.specs.Frames.{left, questions};
 
 use crate::block_row::BlockRow;
 use crate::control_row::{start_control, step_control};
@@ -87,7 +88,7 @@ impl Frame {
         items: &[Expr],
     ) -> Option<Result<Option<Frame>, AllocError>>
         requires names { HasBuiltins names.now }
-        ensures known { is_some result ≡ has_frame row }
+        ensures known { is_some result ≡ has_machine row }
         ensures starts { IfSome result (λ r. Starts (left (names_in names.now)) (λ stay. t.row (names_in names.now) row stay items.now) r) }
     {
         if let Some(started) = start_form(alloc, names, row, items) {
