@@ -5,7 +5,7 @@ use Rattle.std.specs.Prelude.{◌≡◌, Bool, true, false, T, not, is_some}
 use Rattle.expr_tree.specs.Tree.{Tree}
 use Rattle.semantics.specs.Definitions.{Definitions}
 use Rattle.semantics.specs.Program.{Call, Sends, Enter, Leave}
-use Rattle.semantics.specs.Play.{Setting, State, End, Value, Stopped, Throwing, Thrown, Reply, Replied, Halted, Shut, Lacking, Play, Over, Calls, whole}
+use Rattle.semantics.specs.Play.{Setting, State, End, Value, Stopped, Throwing, Thrown, Quit, Closed, Starved, Reply, Replied, Halted, Shut, Lacking, Play, Over, Calls, whole}
 
 -- Enter that is replied to opens a section, Leave that is replied to closes it, and nothing else does
 abbrev pub opens : Call → Reply → Bool → Bool
@@ -32,7 +32,9 @@ Still true (Value v) now = now ≡ true
 Still true (Stopped c) now = now ≡ true
 Still true (Throwing v) now = now ≡ true
 Still true (Thrown v) now = now ≡ true
-Still true _ now = Unit {0}
+Still true Quit now = Unit {0}
+Still true Closed now = Unit {0}
+Still true Starved now = Unit {0}
 
 -- of what began inside a section or not, and is at a point where one is open or not
 pub data Orderly (inside : Bool) : Bool → Play → Type 0 where

@@ -58,7 +58,12 @@ ending (Calls c s f) k = Calls c s (λ r d. ending (f r d) k)
 -- goes on with a value; any other end is the end
 abbrev pub on_value : (Tree → State → Play) → End → State → Play
 on_value k (Value v) s = k v s
-on_value k o s = Over o s
+on_value k (Stopped cause) s = Over (Stopped cause) s
+on_value k (Throwing v) s = Over (Throwing v) s
+on_value k (Thrown v) s = Over (Thrown v) s
+on_value k Quit s = Over Quit s
+on_value k Closed s = Over Closed s
+on_value k Starved s = Over Starved s
 
 abbrev pub after : Play → (Tree → State → Play) → Play
 after p k = ending p (on_value k)
@@ -67,7 +72,11 @@ after p k = ending p (on_value k)
 abbrev pub catching : (Tree → State → Play) → End → State → Play
 catching k (Value v) s = k v s
 catching k (Thrown v) s = k v s
-catching k o s = Over o s
+catching k (Stopped cause) s = Over (Stopped cause) s
+catching k (Throwing v) s = Over (Throwing v) s
+catching k Quit s = Over Quit s
+catching k Closed s = Over Closed s
+catching k Starved s = Over Starved s
 
 -- ---- the limits
 
@@ -142,7 +151,10 @@ abbrev pub leaving : (Tree → State → Play) → End → State → Play
 leaving k (Value v) s = calling Leave s (λ _ t. k v (opened None t))
 leaving k (Stopped cause) s = calling Leave s (λ _ t. Over (Stopped cause) (opened None t))
 leaving k (Thrown v) s = calling Leave s (λ _ t. Over (Thrown v) (opened None t))
-leaving k o s = Over o s
+leaving k (Throwing v) s = Over (Throwing v) s
+leaving k Quit s = Over Quit s
+leaving k Closed s = Over Closed s
+leaving k Starved s = Over Starved s
 
 abbrev pub all_among : List Sym → List Sym → Bool
 all_among [] held = true
@@ -241,7 +253,11 @@ judged set left again e v s = unless_stopped (too_large set.limits v) s (λ t. s
 abbrev pub passed : Setting → ℕ → Evaluator → Tree → End → State → Play
 passed set left again e (Value v) s = judged set left again e v s
 passed set left again e (Throwing v) s = changed set left (λ w t. Over (Thrown w) t) v s
-passed set left again e o s = Over o s
+passed set left again e (Stopped cause) s = Over (Stopped cause) s
+passed set left again e (Thrown v) s = Over (Thrown v) s
+passed set left again e Quit s = Over Quit s
+passed set left again e Closed s = Over Closed s
+passed set left again e Starved s = Over Starved s
 
 -- passes until one changes nothing, with so many changing passes left
 abbrev pub passes : Setting → Evaluator → ℕ → Evaluator
