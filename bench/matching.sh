@@ -7,13 +7,13 @@ top=$(cd "$(dirname "$0")/.." && pwd)
 program=$top/crates/wolfpar/out/wolfpar
 
 sum() { printf 'Apply[Plus, Table[t[i], {i, %d}]]' "$1"; }
-derivative() { printf 'd[u_ + v_, x_] := d[u, x] + d[v, x]\nd[%s, x];\n' "$(sum "$1")"; }
+derivative() { printf 'd[u_ + v_, x_] := d[u, x] + d[v, x]\n\nd[%s, x];\n' "$(sum "$1")"; }
 pairs() { printf 'SetAttributes[o, Orderless];\nMatchQ[Apply[o, Range[%d]], o[x_, x_, ___]]\n' "$1"; }
 literal() { printf 'SetAttributes[o, Orderless];\nMatchQ[Apply[o, Append[Range[%d], a]], o[a, ___]]\n' "$1"; }
-run() { printf 'g[y__] := 1\nApply[g, Range[%d]]\n' "$1"; }
-longer() { printf 'g[%d, y___] := 1\ng[n_, y___] := g[n + 1, y, x]\ng[1]\n' "$1"; }
+run() { printf 'g[y__] := 1\n\nApply[g, Range[%d]]\n' "$1"; }
+longer() { printf 'g[%d, y___] := 1\n\ng[n_, y___] := g[n + 1, y, x]\n\ng[1]\n' "$1"; }
 linear() { printf 'MatchQ[%s, a_ x + b_]\n' "$(sum "$1")"; }
-loop() { printf 'r = 0\nDo[r = r + t[i], {i, %d}]\n' "$1"; }
+loop() { printf 'r = 0\n\nDo[r = r + t[i], {i, %d}]\n' "$1"; }
 total() { printf '%s;\n' "$(sum "$1")"; }
 
 # User seconds of a script
@@ -35,7 +35,7 @@ row() {
   }'
 }
 
-"$top/wolfpar" --kernels 0 </dev/null || exit 1  # builds it
+"$top/prove" || exit 1
 ulimit -t 120
 empty=$(seconds '')
 row 'the derivative of a sum, term by term' derivative 2 50 100 200
