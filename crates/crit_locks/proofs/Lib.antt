@@ -1,0 +1,4 @@
+pub mod Left
+pub mod Entered
+pub mod Holders
+pub mod Frees
