@@ -7,12 +7,11 @@ use Rattle.script_text.specs.Spelling.{by_texts, place_in}
 use Rattle.semantics.specs.declared.builtin.Builtin.{Builtin}
 use Rattle.semantics.specs.Names.{Names, is_name}
 use Rattle.semantics.specs.Texts.{names_of}
-use Rattle.semantics.specs.Definitions.{Definitions, empty, is_empty}
+use Rattle.semantics.specs.Definitions.{Definitions, empty}
 use Rattle.semantics.specs.Program.{Mode}
 use Rattle.semantics.specs.Play.{State, End, Play, Over, Calls, whole}
 use Rattle.semantics.specs.Ends.{aborted, shown_end}
 use Rattle.semantics.specs.Eval.{Outcome, Ended, Needs, Wrong, over, eval}
-use Rattle.syntax.specs.Leaves.{Lexeme, lexemes}
 use Rattle.syntax.specs.Lines.{syntax_line}
 use Rattle.syntax.specs.Lines as Lines
 use Rattle.syntax.proofs.Read.{one_reading, one_offset}
@@ -144,8 +143,8 @@ module _ (texts : List Text) (steps : ℕ) where
         writes = lines_more ls (Run.out_line names n (aborted names)) (Lines.out_line (by_texts texts) names n (aborted names)) (out_is n (aborted names));
       }
 
-  abbrev ran_by : Definitions → List Lexeme → Tree → Sequential.Ran
-  ran_by d ls e = ran (by_texts texts) names (place_in texts) steps d ls e
+  abbrev ran_by : Definitions → Tree → Sequential.Ran
+  ran_by d e = ran (by_texts texts) names (place_in texts) steps d e
 
   -- by whether it is within the depth, and whether a name that is not built stands in it
   abbrev made : Definitions → Tree → Bool → Bool → Sequential.Ran
@@ -155,11 +154,10 @@ module _ (texts : List Text) (steps : ℕ) where
         | true ↦ elim u [ true ↦ Sequential.leaves None d | false ↦ left_by names (limits_of steps) (eval (alone (by_texts texts) names steps) d e []) ]
       ]
 
-  -- what the sequential transcript makes of a cell with a token
-  read_cell : (n : ℕ) (w : Walk) (d : Definitions) (ls : List Line) (xs : List Lexeme) (e : Tree) → is_empty xs ≡ false → is_some (ran_by d xs e).value ≡ true
-      → Cell n (Reads e) w d (ran_by d xs e).definitions ls (line_of (by_texts texts) names (place_in texts) steps n (ran_by d xs e).value)
-  read_cell n w d ls [] e some value = absurd (true≢false some)
-  read_cell n w d ls (x ∷ xs) e some value = by_depth (leb (depth e) 512) refl value
+  -- what the sequential transcript makes of a cell that is read
+  read_cell : (n : ℕ) (w : Walk) (d : Definitions) (ls : List Line) (e : Tree) → is_some (ran_by d e).value ≡ true
+      → Cell n (Reads e) w d (ran_by d e).definitions ls (line_of (by_texts texts) names (place_in texts) steps n (ran_by d e).value)
+  read_cell n w d ls e value = by_depth (leb (depth e) 512) refl value
     where
       by_value : (o : Option Tree) → value_in names (limits_of steps) (eval (alone (by_texts texts) names steps) d e []).outcome ≡ o → is_some o ≡ true → ltb 512 (depth e) ≡ false
           → Cell n (Reads e) w d (eval (alone (by_texts texts) names steps) d e []).definitions ls (line_of (by_texts texts) names (place_in texts) steps n o)
@@ -194,29 +192,29 @@ module _ (texts : List Text) (steps : ℕ) where
         writes = rest.writes ∙ (ap (λ x. x ++ u) one.writes ∙ append_assoc (written line ls) t u);
       }
 
-  all_cells : (n : ℕ) (cells : List Text) (readings : List Reading) (lines : List Text) (w : Walk) (d : Definitions) (ls : List Line) → AreReadings texts cells readings → AreBuilt texts steps d cells readings
+  all_cells : (n : ℕ) (d : Definitions) (cells : List Text) (readings : List Reading) (lines : List Text) (w : Walk) (ls : List Line) → AreReadings texts cells readings → AreBuilt texts steps d readings
       → Prints (by_texts texts) names (place_in texts) steps d n cells lines → Cells n readings w d ls (joined lines)
-  all_cells n [] [] [] w d ls are built p = record { lines = ls; after = d; goes = refl; writes = sym (append-nil (written line ls)) }
-  all_cells n [] [] (t ∷ ts) w d ls are built p = elim p [ ]
-  all_cells n [] (r ∷ rs) lines w d ls are built p = absurd are
-  all_cells n (c ∷ cs) [] lines w d ls are built p = absurd are
-  all_cells n (c ∷ cs) (r ∷ rs) [] w d ls are built p = elim p [ ]
-  all_cells n (c ∷ cs) (Unread place ∷ rs) (t ∷ ts) w d ls are built (next (unread other q) ps) =
+  all_cells n d [] [] [] w ls are built p = record { lines = ls; after = d; goes = refl; writes = sym (append-nil (written line ls)) }
+  all_cells n d [] [] (t ∷ ts) w ls are built p = elim p [ ]
+  all_cells n d [] (r ∷ rs) lines w ls are built p = absurd are
+  all_cells n d (c ∷ cs) [] lines w ls are built p = absurd are
+  all_cells n d (c ∷ cs) (r ∷ rs) [] w ls are built p = elim p [ ]
+  all_cells n d (c ∷ cs) (Unread place ∷ rs) (t ∷ ts) w ls are built (next (unread other q) ps) =
       let same : other ≡ place = one_offset names (place_in texts) c other place q are.0 in
       let one = subst (λ x. Cell n (Unread place) w d d ls (syntax_line n x)) (sym same) (unread_cell n place w d ls) in
       more_cells n (Unread place) rs w d d ls (syntax_line n other) (joined ts) one
-      (all_cells (suc n) cs rs ts w d one.lines are.1 built (subst (λ k. Prints (by_texts texts) names (place_in texts) steps d k cs ts) (omega arith) ps))
-  all_cells n (c ∷ cs) (Unread place ∷ rs) (t ∷ ts) w d ls are built (next (read e q) ps) = absurd (are.0.unread e q)
-  all_cells n (c ∷ cs) (Reads e ∷ rs) (t ∷ ts) w d ls are built (next (unread other q) ps) = absurd (q.unread e are.0)
-  all_cells n (c ∷ cs) (Reads e ∷ rs) (t ∷ ts) w d ls are built (next (read f q) ps) =
+      (all_cells (suc n) d cs rs ts w one.lines are.1 built (subst (λ k. Prints (by_texts texts) names (place_in texts) steps d k cs ts) (omega arith) ps))
+  all_cells n d (c ∷ cs) (Unread place ∷ rs) (t ∷ ts) w ls are built (next (read e q) ps) = absurd (are.0.unread e q)
+  all_cells n d (c ∷ cs) (Reads e ∷ rs) (t ∷ ts) w ls are built (next (unread other q) ps) = absurd (q.unread e are.0)
+  all_cells n d (c ∷ cs) (Reads e ∷ rs) (t ∷ ts) w ls are built (next (read f q) ps) =
       let same : e ≡ f = one_reading names (place_in texts) c e f are.0 q in
-      let one : Cell n (Reads e) w d (ran_by d (lexemes c) f).definitions ls (line_of (by_texts texts) names (place_in texts) steps n (ran_by d (lexemes c) f).value) =
-      subst (λ x. Cell n (Reads e) w d (ran_by d (lexemes c) x).definitions ls (line_of (by_texts texts) names (place_in texts) steps n (ran_by d (lexemes c) x).value)) same
-      (read_cell n w d ls (lexemes c) e (built.0).written (built.0).value) in
-      more_cells n (Reads e) rs w d (ran_by d (lexemes c) f).definitions ls _ (joined ts) one
-      (all_cells (suc n) cs rs ts w (ran_by d (lexemes c) f).definitions one.lines are.1
-      (subst (λ x. AreBuilt texts steps (ran_by d (lexemes c) x).definitions cs rs) same built.1)
-      (subst (λ k. Prints (by_texts texts) names (place_in texts) steps (ran_by d (lexemes c) f).definitions k cs ts) (omega arith) ps))
+      let one : Cell n (Reads e) w d (ran_by d f).definitions ls (line_of (by_texts texts) names (place_in texts) steps n (ran_by d f).value) =
+      subst (λ x. Cell n (Reads e) w d (ran_by d x).definitions ls (line_of (by_texts texts) names (place_in texts) steps n (ran_by d x).value)) same
+      (read_cell n w d ls e built.0) in
+      more_cells n (Reads e) rs w d (ran_by d f).definitions ls _ (joined ts) one
+      (all_cells (suc n) (ran_by d f).definitions cs rs ts w one.lines are.1
+      (subst (λ x. AreBuilt texts steps (ran_by d x).definitions rs) same built.1)
+      (subst (λ k. Prints (by_texts texts) names (place_in texts) steps (ran_by d f).definitions k cs ts) (omega arith) ps))
 
   -- ---- the whole
 
@@ -226,10 +224,10 @@ module _ (texts : List Text) (steps : ℕ) where
   so : (b : Bool) → b ≡ true → T b
   so b e = subst T (sym e) tt
 
-  script_goes : (cells : List Text) (readings : List Reading) (lines : List Text) → AreReadings texts cells readings → AreBuilt texts steps empty cells readings
+  script_goes : (cells : List Text) (readings : List Reading) (lines : List Text) → AreReadings texts cells readings → AreBuilt texts steps empty readings
       → Prints (by_texts texts) names (place_in texts) steps empty 1 cells lines → Legal set [] readings journal × (transcript_text texts set false readings journal (length readings) ≡ Some (joined lines))
   script_goes cells readings lines are built p =
-      let r = all_cells 1 cells readings lines (first_walk set journal) empty [] are built p in
+      let r = all_cells 1 empty cells readings lines (first_walk set journal) [] are built p in
       let taken : run_along set readings journal (length readings) ≡ Goes (at (first_walk set journal) r.after r.lines) = ap (λ cs. run_cells set 1 cs (at (first_walk set journal) empty [])) (all_taken readings) ∙ r.goes in (
         so (legal set [] readings journal) (ap (λ o. Run.kernels_run set [] (given (Run.arrived (going o (λ x. closes set x.walk))) (λ w. Some w.posted))) taken),
         ap (λ o. given (given (Run.arrived o) (λ x. Some (x.lines ++ []))) (λ ls. Some (written line ls))) taken

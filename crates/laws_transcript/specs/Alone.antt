@@ -1,12 +1,11 @@
 -- The sequential transcript of a script, and the run with no kernels.
---     IsBuilt, AreBuilt     a cell that is evaluated and makes no call; some cells, each from the definitions that the ones before it leave
+--     IsBuilt, AreBuilt     a cell whose value is built, by its reading; some cells, each from the definitions that the ones before it leave
 --     AloneIsRun            the lines of such cells are what the run with no kernels writes
 use Rattle.std.specs.Prelude.{◌≡◌, ℕ, List, [], ◌∷◌, ◌++◌, length, true, false, Some, is_some}
 use Rattle.expr_tree.specs.Tree.{Tree}
 use Rattle.script_text.specs.Spelling.{by_texts, place_in}
-use Rattle.semantics.specs.Definitions.{Definitions, empty, is_empty}
+use Rattle.semantics.specs.Definitions.{Definitions, empty}
 use Rattle.semantics.specs.Texts.{names_of}
-use Rattle.syntax.specs.Leaves.{lexemes}
 use Rattle.journal.specs.declared.recover.Recover.{Recover}
 use Rattle.journal.specs.Entry.{Text, Entry, Event}
 use Rattle.journal.specs.Core.{Setup}
@@ -19,16 +18,14 @@ abbrev pub no_kernels : List Text → ℕ → Setup
 no_kernels texts steps = setup_of texts 0 steps Recover.Retry
 
 module _ (texts : List Text) (steps : ℕ) where
-  -- it has a token, and a value: no name that is not built stands in it, and its evaluation needs no call
-  pub record IsBuilt (d : Definitions) (cell : Text) (e : Tree) : Type 0 where
-    pub written : is_empty (lexemes cell) ≡ false
-    pub value : is_some (ran (by_texts texts) (names_of texts) (place_in texts) steps d (lexemes cell) e).value ≡ true
+  -- it has a value: no name that is not built stands in it, and its evaluation needs no call
+  abbrev pub IsBuilt : Definitions → Tree → Type 0
+  IsBuilt d e = is_some (ran (by_texts texts) (names_of texts) (place_in texts) steps d e).value ≡ true
 
-  abbrev pub AreBuilt : Definitions → List Text → List Reading → Type 0
-  AreBuilt d (cell ∷ cells) (Reads e ∷ readings) =
-      IsBuilt d cell e × AreBuilt (ran (by_texts texts) (names_of texts) (place_in texts) steps d (lexemes cell) e).definitions cells readings
-  AreBuilt d (cell ∷ cells) (Unread place ∷ readings) = AreBuilt d cells readings
-  AreBuilt d _ _ = Unit {0}
+  abbrev pub AreBuilt : Definitions → List Reading → Type 0
+  AreBuilt d [] = Unit {0}
+  AreBuilt d (Reads e ∷ readings) = IsBuilt d e × AreBuilt (ran (by_texts texts) (names_of texts) (place_in texts) steps d e).definitions readings
+  AreBuilt d (Unread place ∷ readings) = AreBuilt d readings
 
 abbrev pub close : Entry
 close = record { kernel = 0; event = Event.Close }
@@ -40,6 +37,6 @@ joined (line ∷ lines) = line ++ joined lines
 abbrev pub AloneIsRun : Type 0
 AloneIsRun =
     (texts : List Text) (steps : ℕ) (cells : List Text) (readings : List Reading) (lines : List Text)
-    → AreReadings texts cells readings → AreBuilt texts steps empty cells readings → Prints (by_texts texts) (names_of texts) (place_in texts) steps empty 1 cells lines
+    → AreReadings texts cells readings → AreBuilt texts steps empty readings → Prints (by_texts texts) (names_of texts) (place_in texts) steps empty 1 cells lines
     → Legal (no_kernels texts steps) [] readings (close ∷ [])
     × (transcript_text texts (no_kernels texts steps) false readings (close ∷ []) (length readings) ≡ Some (joined lines))

@@ -30,7 +30,7 @@ runs_written words before after steps script Done read whole text written = (ste
 runs_written words before after steps script Usage read whole text written = absurd written
 runs_written words before after steps script ReadFault read whole text written = absurd written
 runs_written words before after steps script WriteFault read whole text written = (steps, read, (script, whole, text, written))
-runs_written words before after steps script NoMemory read whole text written = (steps, read, script, whole.0, whole.2, written.0, written.1, written.2)
+runs_written words before after steps script NoMemory read whole text written = (steps, read, inl (script, whole, text, written))
 runs_written words before after steps script TooLong read whole text written = absurd written
 runs_written words before after steps script NotText read whole text written = absurd written
 

@@ -1,5 +1,5 @@
 -- The lines so far, and the line of a cell.
-use Rattle.std.proofs.Common.{◌≡◌, ◌↔◌, not, map, IsTrue, refl, sym, ap, ◌∙◌, subst, ℕ, ◌+◌, ◌<◌, ◌≤◌, Bool, true, false, true≢false, List, [], ◌∷◌, ◌++◌, length, drop, get_or, append_assoc, arith}
+use Rattle.std.proofs.Common.{◌≡◌, map, refl, sym, ap, ◌∙◌, subst, ℕ, ◌+◌, ◌<◌, ◌≤◌, Bool, true, false, List, [], ◌∷◌, ◌++◌, length, drop, get_or, append_assoc, arith}
 use Rattle.std.specs.Prelude.{leb, Option, Some, None, Result, Ok, Err, IfOk, IfErr}
 use Rattle.std.proofs.lemmas.Bool.{le-leb, leb-true}
 use Rattle.std.proofs.lemmas.List.{append-nil}
@@ -14,20 +14,14 @@ use Rattle.semantics.specs.Texts.{names_of}
 use Rattle.semantics.specs.Definitions.{Definitions, empty}
 use Rattle.semantics.specs.Eval.{eval}
 use Rattle.builtin_names.specs.Named.{names_in}
-use Rattle.syntax.specs.Tokens.{lex}
-use Rattle.syntax.specs.Leaves.{Lexeme, lexemes, lexemes_after}
-use Rattle.lex_form.specs.declared.token.Token.{Token}
-use Rattle.lex_form.specs.declared.token.Lexed.{Lexed}
-use Rattle.lex_form.specs.Lexes.{token_of, lexed}
 use Rattle.lex_form.specs.declared.cut.Span.{Span}
 use Rattle.lex_form.specs.Spans.{span_text}
 use Rattle.syntax.specs.Lines.{out_line, syntax_line}
-use Rattle.syntax.specs.Reads.{Reads, LexemesRead, IsOffset}
+use Rattle.syntax.specs.Reads.{Reads, IsOffset}
 use Rattle.read_form.specs.declared.ReadNo.{ReadNo}
 use Rattle.read_form.specs.Answers.{IsNo}
 use Rattle.sequential_transcript.specs.Unbuilt.{has_unbuilt}
 use Rattle.sequential_transcript.specs.Transcript.{Ran, limits_of, alone, ran, leaves, value_in, left_by, line_of, PrintsCell, read, unread, Prints, none, next, texts_of}
-use Rattle.script_run.specs.Cells.{has_some}
 use Rattle.script_run.specs.Promise.{IsTranscript, Begins}
 use Rattle.script_run.proofs.LineLemmas.{names_are}
 use Rattle.script_run.proofs.TextLemmas.{first_span}
@@ -107,21 +101,15 @@ module _ (spelling : Spelling) (names : Names) (find : List ℕ → ℕ) (steps 
   abbrev by_depth : Bool → Definitions → Tree → Ran
   by_depth b d e = elim b [ false ↦ leaves (Some (name names Builtin.Aborted)) d | true ↦ by_test (has_unbuilt names e) d e ]
 
-  pub ran_none : (d : Definitions) (ls : List Lexeme) (e : Tree) → has_some ls ≡ false → ran spelling names find steps d ls e ≡ leaves (Some e) d
-  ran_none d [] e is = refl
-  ran_none d (l ∷ ls) e is = absurd (true≢false is)
+  ran_shallow : (d : Definitions) (e : Tree) → depth e ≤ 512 → ran spelling names find steps d e ≡ by_test (has_unbuilt names e) d e
+  ran_shallow d e shallow = ap (λ b. by_depth b d e) (le-leb (depth e) 512 shallow)
 
-  ran_shallow : (d : Definitions) (ls : List Lexeme) (e : Tree) → has_some ls ≡ true → depth e ≤ 512 → ran spelling names find steps d ls e ≡ by_test (has_unbuilt names e) d e
-  ran_shallow d [] e is shallow = absurd (true≢false (sym is))
-  ran_shallow d (l ∷ ls) e is shallow = ap (λ b. by_depth b d e) (le-leb (depth e) 512 shallow)
+  pub ran_unbuilt : (d : Definitions) (e : Tree) → depth e ≤ 512 → has_unbuilt names e ≡ true → ran spelling names find steps d e ≡ leaves None d
+  ran_unbuilt d e shallow bad = ran_shallow d e shallow ∙ ap (λ b. by_test b d e) bad
 
-  pub ran_unbuilt : (d : Definitions) (ls : List Lexeme) (e : Tree) → has_some ls ≡ true → depth e ≤ 512 → has_unbuilt names e ≡ true
-      → ran spelling names find steps d ls e ≡ leaves None d
-  ran_unbuilt d ls e is shallow bad = ran_shallow d ls e is shallow ∙ ap (λ b. by_test b d e) bad
-
-  pub ran_evaluated : (d : Definitions) (ls : List Lexeme) (e : Tree) → has_some ls ≡ true → depth e ≤ 512 → has_unbuilt names e ≡ false
-      → ran spelling names find steps d ls e ≡ leaves (value_in names (limits_of steps) (eval (alone spelling names steps) d e []).outcome) (eval (alone spelling names steps) d e []).definitions
-  ran_evaluated d ls e is shallow good = ran_shallow d ls e is shallow ∙ ap (λ b. by_test b d e) good
+  pub ran_evaluated : (d : Definitions) (e : Tree) → depth e ≤ 512 → has_unbuilt names e ≡ false
+      → ran spelling names find steps d e ≡ leaves (value_in names (limits_of steps) (eval (alone spelling names steps) d e []).outcome) (eval (alone spelling names steps) d e []).definitions
+  ran_evaluated d e shallow good = ran_shallow d e shallow ∙ ap (λ b. by_test b d e) good
 
   is_deep : (e : Tree) → 512 < depth e → leb (depth e) 512 ≡ false
   is_deep e deep = go (leb (depth e) 512) refl
@@ -130,20 +118,14 @@ module _ (spelling : Spelling) (names : Names) (find : List ℕ → ℕ) (steps 
       go true is = absurd (omega (arith, deep, leb-true (depth e) 512 is))
       go false is = refl
 
-  -- a cell that is read too deep has a token
-  pub ran_deep : (d : Definitions) (cell : List ℕ) (e : Tree) → Reads names find cell e → 512 < depth e
-      → ran spelling names find steps d (lexemes cell) e ≡ leaves (Some (name names Builtin.Aborted)) d
-  ran_deep d cell e r deep = go (lexemes cell) r.read
-    where
-      go : (ls : List Lexeme) → LexemesRead names find ls e → ran spelling names find steps d ls e ≡ leaves (Some (name names Builtin.Aborted)) d
-      go [] null = absurd (omega (arith, deep, ap depth null))
-      go (l ∷ ls) some = ap (λ b. by_depth b d e) (is_deep e deep)
+  ran_deep : (d : Definitions) (e : Tree) → 512 < depth e → ran spelling names find steps d e ≡ leaves (Some (name names Builtin.Aborted)) d
+  ran_deep d e deep = ap (λ b. by_depth b d e) (is_deep e deep)
 
-  pub prints_read : (d later : Definitions) (n : ℕ) (cell line : List ℕ) (e : Tree) (r : Ran) → Reads names find cell e → ran spelling names find steps d (lexemes cell) e ≡ r
+  pub prints_read : (d later : Definitions) (n : ℕ) (cell line : List ℕ) (e : Tree) (r : Ran) → Reads names find cell e → ran spelling names find steps d e ≡ r
       → line ≡ line_of spelling names find steps n r.value → later ≡ r.definitions → PrintsCell spelling names find steps d n cell line later
   prints_read d later n cell line e r reads is at given =
       subst (λ o. PrintsCell spelling names find steps d n cell line o) (sym (given ∙ sym (ap (λ x. x.definitions) is)))
-      (subst (λ l. PrintsCell spelling names find steps d n cell l (ran spelling names find steps d (lexemes cell) e).definitions)
+      (subst (λ l. PrintsCell spelling names find steps d n cell l (ran spelling names find steps d e).definitions)
       (sym (at ∙ sym (ap (λ x. line_of spelling names find steps n x.value) is))) (read e reads))
 
   pub prints_unread : (d : Definitions) (n : ℕ) (cell line : List ℕ) (place : ℕ) → IsOffset names find cell place → line ≡ syntax_line n place
@@ -153,16 +135,16 @@ module _ (spelling : Spelling) (names : Names) (find : List ℕ → ℕ) (steps 
   -- ---- what a line that may want memory says of the cell
 
   pub read_line : {E : Type 0} (r : Result (List ℕ) E) (d later : Definitions) (n : ℕ) (cell : List ℕ) (e : Tree) (v : Option Tree) → Reads names find cell e
-      → v ≡ (ran spelling names find steps d (lexemes cell) e).value → later ≡ (ran spelling names find steps d (lexemes cell) e).definitions
+      → v ≡ (ran spelling names find steps d e).value → later ≡ (ran spelling names find steps d e).definitions
       → IfOk r (λ t. t ≡ line_of spelling names find steps n v) → IfOk r (λ line. PrintsCell spelling names find steps d n cell line later)
   read_line (Ok t) d later n cell e v reads is given at =
-      prints_read d later n cell t e (ran spelling names find steps d (lexemes cell) e) reads refl (at ∙ ap (line_of spelling names find steps n) is) given
+      prints_read d later n cell t e (ran spelling names find steps d e) reads refl (at ∙ ap (line_of spelling names find steps n) is) given
   read_line (Err x) d later n cell e v reads is given at = tt
 
   pub deep_line : {E : Type 0} (r : Result (List ℕ) E) (d : Definitions) (n : ℕ) (cell : List ℕ) (v : Tree) → ((e : Tree) × Reads names find cell e × (512 < depth e))
       → v ≡ name names Builtin.Aborted → IfOk r (λ t. t ≡ out_line spelling names n v) → IfOk r (λ line. PrintsCell spelling names find steps d n cell line d)
   deep_line (Ok t) d n cell v deep is at =
-      prints_read d d n cell t deep.0 (leaves (Some (name names Builtin.Aborted)) d) deep.1 (ran_deep d cell deep.0 deep.1 deep.2) (at ∙ ap (out_line spelling names n) is) refl
+      prints_read d d n cell t deep.0 (leaves (Some (name names Builtin.Aborted)) d) deep.1 (ran_deep d deep.0 deep.2) (at ∙ ap (out_line spelling names n) is) refl
   deep_line (Err x) d n cell v deep is at = tt
 
   pub unread_line : {E : Type 0} (r : Result (List ℕ) E) (d : Definitions) (n : ℕ) (cell : List ℕ) (place : ℕ) → IsOffset names find cell place
@@ -170,19 +152,8 @@ module _ (spelling : Spelling) (names : Names) (find : List ℕ → ℕ) (steps 
   unread_line (Ok t) d n cell place p at = prints_unread d n cell t place p at
   unread_line (Err x) d n cell place p at = tt
 
-pub ruleset value_steps = (ran_none, ran_evaluated, ran_unbuilt)
+pub ruleset value_steps = (ran_evaluated, ran_unbuilt)
 
 -- why a cell was not read
 pub no_is : (table : NameTable) (cell : List ℕ) (r : Result Tree ReadNo) (f why : ReadNo) → IfErr r (λ x. IsNo table cell x) → r ≡ Err f → f ≡ why → IsNo table cell why
 no_is table cell r f why is at same = subst (λ x. IsNo table cell x) same (subst (λ q. IfErr q (λ x. IsNo table cell x)) at is)
-
--- ---- tokens
-
-some_tokens : (text : List ℕ) (at : ℕ) (ts : List Token) (empty : Bool) → IsTrue empty ↔ (ts ≡ []) → not empty ≡ has_some (lexemes_after text at (map token_of ts))
-some_tokens text at [] true h = refl
-some_tokens text at [] false h = absurd (true≢false (sym (h.1 refl)))
-some_tokens text at (t ∷ ts) true h = absurd (omega (arith, ap length (h.0 refl)))
-some_tokens text at (t ∷ ts) false h = refl
-
-pub has_tokens : (cell : List ℕ) (l : Lexed) (empty : Bool) → lexed l ≡ lex cell → IsTrue empty ↔ (l.tokens ≡ []) → not empty ≡ has_some (lexemes cell)
-has_tokens cell l empty same h = some_tokens cell 0 l.tokens empty h ∙ ap (λ x. has_some (lexemes_after cell 0 x.tokens)) same

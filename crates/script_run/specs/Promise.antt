@@ -58,6 +58,10 @@ RunsWhole before after steps status =
     (script : List ℕ) × IsWhole before.left after.left script × IsUtf8 script
     × Writes before.held after.held before.write_faults after.write_faults steps script status
 
+-- the input was not read to its end, and nothing was written
+abbrev pub RunsOut : Ends → Ends → Type 0
+RunsOut before after = (bytes : List ℕ) × Consumes before.left after.left bytes × (length bytes ≤ limit) × Appends before.held after.held []
+
 -- the words are read, and each cell may take so many steps
 abbrev pub AreRead : List (List ℕ) → ℕ → Type 0
 AreRead words steps = steps_in words ≡ Some steps
@@ -69,9 +73,7 @@ Runs words before after Usage = steps_in words ≡ None
 Runs words before after ReadFault =
     (steps : ℕ) × AreRead words steps × (bytes : List ℕ) × Consumes before.left after.left bytes × (length bytes ≤ limit) × Rose before.read_faults after.read_faults
 Runs words before after WriteFault = (steps : ℕ) × AreRead words steps × RunsWhole before after steps WriteFault
-Runs words before after NoMemory =
-    (steps : ℕ) × AreRead words steps × (bytes : List ℕ) × Consumes before.left after.left bytes × (length bytes ≤ limit)
-    × (lines : List (List ℕ)) × Begins steps bytes lines × Appends before.held after.held (all_joined lines)
+Runs words before after NoMemory = (steps : ℕ) × AreRead words steps × (RunsWhole before after steps NoMemory ⊎ RunsOut before after)
 Runs words before after TooLong = (steps : ℕ) × AreRead words steps × (bytes : List ℕ) × Consumes before.left after.left bytes × (limit < length bytes)
 Runs words before after NotText = (steps : ℕ) × AreRead words steps × (bytes : List ℕ) × IsWhole before.left after.left bytes × ¬ IsUtf8 bytes
 

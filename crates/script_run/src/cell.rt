@@ -34,7 +34,7 @@ pub(crate) fn run_cell(
     ensures kept_after { IfOk result (λ line. AreKeptIn (length names.now.texts) defs.new) }
 {
     match read_cell(alloc, names, cell) {
-        Ok(e) => match value_of(alloc, names, steps, defs, cell, e)? {
+        Ok(e) => match value_of(alloc, names, steps, defs, e)? {
             Some(value) => out_line(alloc, names, n, &value),
             None => unbuilt_line(alloc, n),
         },

@@ -5,18 +5,15 @@ ghost use Rattle.script_text.specs.Laws.{IsKept};
 ghost use Rattle.script_text.specs.Spelling.{by_texts, place_in};
 ghost use Rattle.semantics.specs.Definitions.{empty};
 ghost use Rattle.semantics.specs.Eval as sem;
-ghost use Rattle.syntax.specs.Leaves.{lexemes};
 ghost use Rattle.builtin_names.specs.Named.{HasBuiltins, names_in};
 ghost use Rattle.laws_bases.specs.Kept.{AreKeptIn, IsKeptValue};
 ghost use Rattle.sequential_transcript.specs.Transcript.{limits_of, alone, ran, value_in};
-ghost use Rattle.script_run.specs.Cells.{has_some};
 
 use crate::outside::NoOutside;
 use crate::unbuilt::has_unbuilt;
 use builtin_names::name;
 use eval_seq::{Context, Defs, Ended, Mode, Outcome, eval};
 use expr_tree::{Expr, Limits};
-use lex_form::lex;
 use name_table::Names;
 use semantics::Builtin;
 use std::alloc::{AllocError, Global};
@@ -39,14 +36,6 @@ fn limits_of(steps: u64) -> Limits
         size: 4_000_000,
         depth: 512,
     }
-}
-
-/// Whether a cell has a token.
-fn has_token(alloc: Global, cell: &str) -> Result<bool, AllocError>
-    ensures { IfOk result (λ some. some ≡ has_some (lexemes cell.now)) }
-{
-    let lexed = lex(alloc, cell)?;
-    Ok(!lexed.tokens.is_empty())
 }
 
 /// An expression is at most 512 deep.
@@ -92,27 +81,23 @@ fn evaluated(
     }
 }
 
-/// The value of a cell that is read, if it is built. A cell without tokens is its own value.
+/// The value of a cell that is read as an expression, if it is built.
 #[tactic(auto, using(crate::proofs::TranscriptLemmas::value_steps))]
 pub(crate) fn value_of(
     alloc: Global,
     names: &Names,
     steps: u64,
     defs: &mut Defs,
-    cell: &str,
     e: Expr,
 ) -> Result<Option<Expr>, AllocError>
     requires names { HasBuiltins names.now }
     requires kept { IsKept (length names.now.texts) e }
     requires kept_before { AreKeptIn (length names.now.texts) defs.old }
-    ensures value { IfOk result (λ v. v ≡ (ran (by_texts names.now.texts) (names_in names.now) (place_in names.now.texts) steps defs.old (lexemes cell.now) e).value) }
-    ensures definitions { IfOk result (λ v. defs.new ≡ (ran (by_texts names.now.texts) (names_in names.now) (place_in names.now.texts) steps defs.old (lexemes cell.now) e).definitions) }
+    ensures value { IfOk result (λ v. v ≡ (ran (by_texts names.now.texts) (names_in names.now) (place_in names.now.texts) steps defs.old e).value) }
+    ensures definitions { IfOk result (λ v. defs.new ≡ (ran (by_texts names.now.texts) (names_in names.now) (place_in names.now.texts) steps defs.old e).definitions) }
     ensures kept { IfOk result (λ v. IsKeptValue (length names.now.texts) v) }
     ensures kept_after { IfOk result (λ v. AreKeptIn (length names.now.texts) defs.new) }
 {
-    if !has_token(alloc, cell)? {
-        return Ok(Some(e));
-    }
     is_within_depth(&e);
     if has_unbuilt(names, &e) {
         return Ok(None);

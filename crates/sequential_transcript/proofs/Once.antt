@@ -3,7 +3,6 @@ use Rattle.std.proofs.Common.{◌≡◌, ℕ, ◌+◌, List, [], ◌∷◌, refl
 use Rattle.script_text.specs.Spelling.{Spelling}
 use Rattle.semantics.specs.Names.{Names}
 use Rattle.semantics.specs.Definitions.{Definitions}
-use Rattle.syntax.specs.Leaves.{lexemes}
 use Rattle.syntax.specs.Lines.{syntax_line}
 use Rattle.syntax.proofs.Read.{one_reading, one_offset}
 use Rattle.sequential_transcript.specs.Transcript.{PrintsCell, read, unread, Prints, none, next, ran, line_of}
@@ -14,7 +13,7 @@ module _ (spelling : Spelling) (names : Names) (find : List ℕ → ℕ) (steps 
       → PrintsCell spelling names find steps d n cell line later → PrintsCell spelling names find steps d n cell other last → (line ≡ other) × (later ≡ last)
   cell_once d n cell (read e p) (read f q) =
       let same : e ≡ f = one_reading names find cell e f p q in
-      (ap (λ x. line_of spelling names find steps n (ran spelling names find steps d (lexemes cell) x).value) same, ap (λ x. (ran spelling names find steps d (lexemes cell) x).definitions) same)
+      (ap (λ x. line_of spelling names find steps n (ran spelling names find steps d x).value) same, ap (λ x. (ran spelling names find steps d x).definitions) same)
   cell_once d n cell (read e p) (unread place q) = absurd (q.unread e p)
   cell_once d n cell (unread place p) (read f q) = absurd (p.unread f q)
   cell_once d n cell (unread place p) (unread other q) = (ap (syntax_line n) (one_offset names find cell place other p q), refl)

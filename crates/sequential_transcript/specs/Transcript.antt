@@ -19,7 +19,6 @@ use Rattle.semantics.specs.Play.{Setting}
 use Rattle.semantics.specs.Ends.{aborted, shown_end}
 use Rattle.semantics.specs.Eval.{Outcome, Ended, Evaluation, eval}
 use Rattle.syntax.specs.Tokens.{lex, names_in}
-use Rattle.syntax.specs.Leaves.{Lexeme, lexemes}
 use Rattle.syntax.specs.Reads.{Reads, IsOffset}
 use Rattle.syntax.specs.Lines.{value_text, numbered_line, out_line, syntax_line}
 use Rattle.sequential_transcript.specs.Unbuilt.{has_unbuilt}
@@ -55,10 +54,9 @@ abbrev pub left_by : Names → Limits → Evaluation → Ran
 left_by names limits v = leaves (value_in names limits v.outcome) v.definitions
 
 module _ (spelling : Spelling) (names : Names) (find : List ℕ → ℕ) (steps : ℕ) where
-  -- by the lexemes of the cell and what they are read as; no call is answered
-  abbrev pub ran : Definitions → List Lexeme → Tree → Ran
-  ran d [] e = leaves (Some e) d
-  ran d (l ∷ ls) e =
+  -- by what the cell is read as; no call is answered
+  abbrev pub ran : Definitions → Tree → Ran
+  ran d e =
       elim (leb (depth e) 512) [
         | false ↦ leaves (Some (aborted names)) d
         | true ↦ elim (has_unbuilt names e) [ true ↦ leaves None d | false ↦ left_by names (limits_of steps) (eval (alone spelling names steps) d e []) ]
@@ -70,7 +68,7 @@ module _ (spelling : Spelling) (names : Names) (find : List ℕ → ℕ) (steps 
 
   -- what the n-th cell prints, and the definitions after it
   pub data PrintsCell (d : Definitions) (n : ℕ) (cell : List ℕ) : List ℕ → Definitions → Type 0 where
-    read : (e : Tree) → Reads names find cell e → PrintsCell d n cell (line_of n (ran d (lexemes cell) e).value) (ran d (lexemes cell) e).definitions
+    read : (e : Tree) → Reads names find cell e → PrintsCell d n cell (line_of n (ran d e).value) (ran d e).definitions
     unread : (place : ℕ) → IsOffset names find cell place → PrintsCell d n cell (syntax_line n place) d
 
   -- the lines of some cells, one for each, the first of them being the n-th

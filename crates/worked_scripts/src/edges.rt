@@ -58,6 +58,8 @@ static VALUES: &[Row] = values![
 static SCRIPTS: &[Row] = rows![
     "--kernels 0":
     "what is Null prints nothing": ["Which[]", "If[False, 1]", "1;"] => [],
+    "a cell without tokens is Null, and evaluated": ["(* nothing *)", "Unprotect[Null]; Null = 5", "(* nothing *)", "{Null}"] =>
+        ["Out[2]= 5", "Out[3]= 5", "Out[4]= {5}"],
     "a rule that gives the expression itself ends the evaluation": ["h[x_] := h[x]", "h[0]"] => ["Out[2]= h[0]"],
     "a refused assignment keeps what its left side did": ["f[n = 1][y] = 2", "n"] =>
         ["Out[1]= $Failed", "Out[2]= 1"],
