@@ -1,6 +1,7 @@
 mod Script
 mod Recovery
 mod Accesses
+mod Alone
 mod Forms
 mod Sections
 mod Bundles
