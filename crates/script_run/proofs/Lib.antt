@@ -1,4 +1,5 @@
 pub mod TextLemmas
+pub mod LexLemmas
 pub mod NameLemmas
 pub mod LineLemmas
 pub mod EvalLemmas

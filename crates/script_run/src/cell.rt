@@ -1,7 +1,8 @@
 //! Runs one cell.
-ghost use Rattle.std.specs.Prelude.{◌≤◌, length, IfOk};
+ghost use Rattle.std.specs.Prelude.{◌≡◌, ◌≤◌, length, IfOk};
 ghost use Rattle.script_text.specs.Spelling.{by_texts, place_in};
 ghost use Rattle.syntax.specs.Tokens as syn;
+ghost use Rattle.lex_form.specs.Lexes as form;
 ghost use Rattle.read_form.specs.Kept.{AreKeptNames};
 ghost use Rattle.builtin_names.specs.Named.{HasBuiltins, names_in};
 ghost use Rattle.laws_bases.specs.Kept.{AreKeptIn};
@@ -12,12 +13,13 @@ use crate::value::value_of;
 use builtin_names::name;
 use eval_seq::Defs;
 use expr_tree::Text;
+use lex_form::Lexed;
 use name_table::Names;
-use read_form::{ReadNo, read_cell};
+use read_form::{ReadNo, read_lexed};
 use semantics::Builtin;
 use std::alloc::{AllocError, Global};
 
-/// Runs the n-th cell, and gives its line.
+/// Runs the n-th cell, whose tokens are known, and gives its line.
 pub(crate) fn run_cell(
     alloc: Global,
     names: &Names,
@@ -25,15 +27,17 @@ pub(crate) fn run_cell(
     defs: &mut Defs,
     n: u64,
     cell: &str,
+    lexed: &Lexed,
 ) -> Result<Text, AllocError>
     requires names { HasBuiltins names.now }
+    requires lexed { form.lexed lexed.now ≡ syn.lex cell.now }
     requires kept { AreKeptNames names.now.texts (syn.names_in cell.now (syn.lex cell.now).tokens) }
     requires kept_before { AreKeptIn (length names.now.texts) defs.old }
     requires short { length cell.now ≤ 1048576 }
     ensures prints { IfOk result (λ line. PrintsCell (by_texts names.now.texts) (names_in names.now) (place_in names.now.texts) steps defs.old n cell.now line defs.new) }
     ensures kept_after { IfOk result (λ line. AreKeptIn (length names.now.texts) defs.new) }
 {
-    match read_cell(alloc, names, cell) {
+    match read_lexed(alloc, names, cell, lexed) {
         Ok(e) => match value_of(alloc, names, steps, defs, e)? {
             Some(value) => out_line(alloc, names, n, &value),
             None => unbuilt_line(alloc, n),

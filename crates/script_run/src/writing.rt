@@ -4,15 +4,15 @@ ghost use Rattle.script_text.specs.Cells.{cells};
 ghost use Rattle.builtin_names.specs.Named.{HasBuiltins};
 ghost use Rattle.lex_form.specs.Spans.{texts_of as span_texts};
 ghost use Rattle.sequential_transcript.specs.Transcript.{texts_of};
-ghost use Rattle.script_run.specs.Cells.{AreCellSpans};
+ghost use Rattle.script_run.specs.Cells.{AreCellSpans, AreLexed};
 ghost use Rattle.script_run.specs.Promise.{Writes, TakesAll};
 
 use crate::cell::run_cell;
 use crate::cell_text::cell_text;
 use crate::report::Status;
-use crate::script_names::names_of_script;
+use crate::script_names::{lex_cells, names_of_script};
 use crate::value::first_definitions;
-use lex_form::{Spans, cells};
+use lex_form::{Lexed, Spans, cells};
 use name_table::Names;
 use port_io::{Failed, Sink};
 use std::alloc::Global;
@@ -25,10 +25,12 @@ fn write_cells<K: Sink>(
     steps: u64,
     script: &str,
     spans: &Spans,
+    lexed: &[Lexed],
     sink: &mut K,
 ) -> Status
     requires short { length script.now ≤ 1048576 }
     requires spans { AreCellSpans script.now spans.now }
+    requires lexed { AreLexed (span_texts script.now spans.now) lexed.now }
     requires cells { span_texts script.now spans.now ≡ cells script.now }
     requires texts { names.now.texts ≡ texts_of (cells script.now) }
     requires names { HasBuiltins names.now }
@@ -41,7 +43,8 @@ fn write_cells<K: Sink>(
     };
     for (at, span) in spans.as_slice().iter().enumerate() {
         let cell = cell_text(script, *span);
-        let Ok(line) = run_cell(alloc, names, steps, &mut defs, at as u64 + 1, cell) else {
+        let n = at as u64 + 1;
+        let Ok(line) = run_cell(alloc, names, steps, &mut defs, n, cell, &lexed[at]) else {
             return Status::NoMemory;
         };
         match sink.write_all(line.as_str().as_bytes()) {
@@ -63,8 +66,11 @@ pub(crate) fn run_script<K: Sink>(alloc: Global, steps: u64, script: &str, sink:
     let Ok(spans) = cells(alloc, script) else {
         return Status::NoMemory;
     };
-    match names_of_script(alloc, script, &spans) {
-        Ok(names) => write_cells(alloc, &names, steps, script, &spans, sink),
+    let Ok(lexed) = lex_cells(alloc, script, &spans) else {
+        return Status::NoMemory;
+    };
+    match names_of_script(alloc, script, &spans, lexed.as_slice()) {
+        Ok(names) => write_cells(alloc, &names, steps, script, &spans, lexed.as_slice(), sink),
         Err(_) => Status::NoMemory,
     }
 }

@@ -31,13 +31,13 @@ returns-in-None-clause-prints c =
 pub returns-in-Err-Syntax-clause-prints : goal.returns-in-Err-Syntax-clause-prints
 returns-in-Err-Syntax-clause-prints c =
     let table = c.args.names.now in
-    let no = no_is table c.args.cell.now c.read_cell.result c.in-Err-Syntax.field-0 _ c.read_cell.ensures.no c.in-Err-Syntax.is c.in-Err-Syntax.field-0-is in
+    let no = no_is table c.args.cell.now c.read_lexed.result c.in-Err-Syntax.field-0 _ c.read_lexed.ensures.no c.in-Err-Syntax.is c.in-Err-Syntax.field-0-is in
     unread_line (by_texts table.texts) (names_in table) (place_in table.texts) c.args.steps c.syntax_line.result c.args.defs.now c.args.n c.args.cell.now c.in-Err-Syntax.place no
     c.syntax_line.ensures
 
 pub returns-in-Err-TooDeep-clause-prints : goal.returns-in-Err-TooDeep-clause-prints
 returns-in-Err-TooDeep-clause-prints c =
     let table = c.args.names.now in
-    let no = no_is table c.args.cell.now c.read_cell.result c.in-Err-TooDeep.field-0 _ c.read_cell.ensures.no c.in-Err-TooDeep.is c.in-Err-TooDeep.field-0-is in
+    let no = no_is table c.args.cell.now c.read_lexed.result c.in-Err-TooDeep.field-0 _ c.read_lexed.ensures.no c.in-Err-TooDeep.is c.in-Err-TooDeep.field-0-is in
     deep_line (by_texts table.texts) (names_in table) (place_in table.texts) c.args.steps c.out_line-in-Err-TooDeep-2.result c.args.defs.now c.args.n c.args.cell.now c.name.result no
     c.name.ensures c.out_line-in-Err-TooDeep-2.ensures

@@ -5,8 +5,8 @@ use Rattle.script_run.specs.Cells.{AreCellSpans}
 use Rattle.script_run.proofs.script_names.written_names.Given as goal
 
 -- the names of the cells so far, and of those that are left
-abbrev pub invariant-loop-span : goal.invariant-loop-span
-invariant-loop-span l = record {
-  names : l.names ++ written_names (map (span_text l.script) (drop l.span-index l.spans)) ≡ written_names (map (span_text l.script) l.spans);
-  spans : AreCellSpans l.script (drop l.span-index l.spans);
+abbrev pub invariant-loop-at : goal.invariant-loop-at
+invariant-loop-at l = record {
+  names : l.names ++ written_names (map (span_text l.script) (drop l.at l.spans)) ≡ written_names (map (span_text l.script) l.spans);
+  spans : AreCellSpans l.script (drop l.at l.spans);
 }

@@ -8,6 +8,7 @@ use Rattle.script_run.specs.Cells.{AreCellSpans}
 use Rattle.semantics.specs.Definitions.{empty}
 use Rattle.laws_bases.specs.Kept.{AreKeptIn}
 use Rattle.script_run.proofs.EvalLemmas.{first_kept}
+use Rattle.script_run.proofs.LexLemmas.{tokens_known}
 use Rattle.script_run.proofs.NameLemmas.{AreKeptCells, script_kept}
 use Rattle.script_run.proofs.TextLemmas.{first_span, span_whole}
 use Rattle.script_run.proofs.TranscriptLemmas.{AreSoFar, none_so_far, next_cell, so_far_begins, so_far_all, joined_more}
@@ -34,6 +35,12 @@ pub cell_text-cell-requires-clause-whole : goal.cell_text-cell-requires-clause-w
 cell_text-cell-requires-clause-whole g c =
     let inside : c.loop-at.at < length c.args.spans.now = omega (arith, ap length c.as_slice-span-items.ensures, c.loop-at-test.true) in
     span_whole c.args.script.now c.args.spans.now c.as_slice-span-items.result.now c.loop-at.at (record { from = 0; to = 0 }) c.as_slice-span-items.ensures inside c.loop-at.invariant.spans
+
+pub run_cell-requires-clause-lexed : goal.run_cell-requires-clause-lexed
+run_cell-requires-clause-lexed g c =
+    let inside : c.loop-at.at < length c.args.spans.now = omega (arith, ap length c.as_slice-span-items.ensures, c.loop-at-test.true) in
+    tokens_known c.args.script.now c.args.spans.now c.as_slice-span-items.result.now c.args.lexed.now c.loop-at.at _ c.index-lexed-at.result c.cell_text-cell.result.now c.requires.lexed inside
+    c.index-lexed-at.is c.as_slice-span-items.ensures c.cell_text-cell.ensures
 
 pub returns-in_default-run_cell-clause-written : goal.returns-in_default-run_cell-clause-written
 returns-in_default-run_cell-clause-written g c =
