@@ -1,0 +1,13 @@
+//! The queue of submitted items, each with what it takes with it and with what became of it. Items and what they take are kept for
+//! good. The least waiting item is found without going over those that were taken before. It stands on `journal`, whose items and
+//! states these are.
+#![tactic(auto)]
+
+mod entry;
+mod item;
+mod queue;
+#[cfg(test)]
+mod tests;
+
+pub use item::{Item, State};
+pub use queue::Queue;

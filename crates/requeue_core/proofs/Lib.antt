@@ -1,0 +1,4 @@
+pub mod Fated
+pub mod Settling
+pub mod Losing
+pub mod Living
