@@ -1,10 +1,10 @@
 -- An own value that is made anew, from what its parts tell.
-use Rattle.std.proofs.Common.{◌≡◌, ◌∙◌, inl, sym, ap, ℕ, Bool, true, false, Option, Some, None, Result, Ok, Err, arith}
+use Rattle.std.proofs.Common.{◌≡◌, ◌∙◌, inl, refl, sym, ap, ℕ, Bool, true, false, Option, Some, None, Result, Ok, Err, arith}
 use Rattle.std.specs.Prelude.{◌||◌, is_some}
 use Rattle.expr_tree.specs.declared.sym.Sym.{Sym}
 use Rattle.expr_tree.specs.Tree.{Tree}
 use Rattle.semantics.specs.Names.{Names}
-use Rattle.semantics.specs.Changes.{change, change_own, is_protected, renew, unless_item}
+use Rattle.semantics.specs.Changes.{change, change_own, is_protected, noting, renew, unless_item}
 use Rattle.semantics.specs.Control.{failed}
 use Rattle.semantics.specs.Definitions.{Definition, Definitions, definition_of}
 use Rattle.semantics.specs.Program.{Prog, Done, Ask, Look, Put, Check}
@@ -14,7 +14,7 @@ use Rattle.evaluation_steps.specs.Stopping.{HaltsFor}
 use Rattle.machine_steps.specs.declared.moves.Move.{Move}
 use Rattle.machine_steps.specs.Steps.{Falls, Stepped, state_at}
 use Rattle.machine_changes.specs.declared.renewal.Renewal.{Renewal}
-use Rattle.machine_changes.specs.Renewing.{given_by, left_renewal, next_of, put, renewed}
+use Rattle.machine_changes.specs.Renewing.{assigned, given_by, left_renewal, next_of, put, renewed}
 use Rattle.machine_changes.specs.Effects.{is_refused}
 use Rattle.machine_changes.proofs.Going.{Leads, passes_item, fails_item}
 
@@ -40,7 +40,7 @@ change_passes set s next given b {d = d} {used = used} e r u =
 
 -- the question, and what follows it
 abbrev asked : Names → Sym → (Tree → Tree) → (Tree → Tree → Tree) → Tree → Prog
-asked names s next given old = Check (next old) (Ask (next old) (λ v. Look s (λ seen. renew names s v (given old v) seen.definition)))
+asked names s next given old = Check (next old) (Ask (next old) (λ v. Look s (λ seen. noting (is_some seen.shared) (renew names s v (given old v) seen.definition))))
 
 abbrev by_own : Names → Sym → (Tree → Tree) → (Tree → Tree → Tree) → Option Tree → Prog
 by_own names s next given own = elim own [ None ↦ failed names | Some old ↦ asked names s next given old ]
@@ -65,16 +65,31 @@ pub before_some : (names : Names) (f : Renewal) (answer : Option Tree) (old : Tr
 before_some names f answer old h =
     ap (λ (o : Option Tree). elim o as (λ _. Prog) [ None ↦ change names f.symbol (next_of names f.row f.operand) (given_by f) | Some x ↦ renewed names f x answer ]) h
 
+noted : (set : Setting) (b : Bool) (p : Prog) {d : Definitions} {used : Bool} → Leads set (noting b p) d used p d (b || used)
+noted set false p = record { by = λ ev steps o. refl }
+noted set true p = record { by = λ ev steps o. refl }
+
+-- the symbol is looked at again
+pub renew_noted : (set : Setting) (f : Renewal) (old v : Tree) (b : Bool) {d : Definitions} {used used' : Bool} → b ≡ is_some (seen set.names d f.symbol).shared
+    → used' ≡ (b || used) → Leads set (renewed set.names f old (Some v)) d used (assigned set.names f old v d) d used'
+renew_noted set f old v b {d = d} {used = used} e u =
+    record {
+      by = λ ev steps o.
+          ap (λ x. run set ev (noting x (assigned set.names f old v d)) (state_at d used steps o)) (sym e)
+          ∙ (noted set b (assigned set.names f old v d) {d = d} {used = used}).by ev steps o
+          ∙ ap (λ w. run set ev (assigned set.names f old v d) (state_at d w steps o)) (sym u);
+    }
+
 abbrev judged : Names → Sym → Tree → Tree → Definition → Bool → Prog
 judged names s new given x b = elim b [ true ↦ failed names | false ↦ Put s (record x { own = Some new }) (Done given) ]
 
 pub renew_refused : (set : Setting) (f : Renewal) (old v : Tree) {d : Definitions} {used : Bool} → is_protected (definition_of set.names d f.symbol) ≡ true
-    → Leads set (renewed set.names f old (Some v)) d used (failed set.names) d used
+    → Leads set (assigned set.names f old v d) d used (failed set.names) d used
 renew_refused set f old v {d = d} {used = used} h =
     record { by = λ ev steps o. ap (λ b. run set ev (judged set.names f.symbol v (given_by f old v) (definition_of set.names d f.symbol) b) (state_at d used steps o)) h }
 
 pub renew_passes : (set : Setting) (f : Renewal) (old v : Tree) {d : Definitions} {used : Bool} → is_protected (definition_of set.names d f.symbol) ≡ false
-    → Leads set (renewed set.names f old (Some v)) d used (put set.names f old v d) d used
+    → Leads set (assigned set.names f old v d) d used (put set.names f old v d) d used
 renew_passes set f old v {d = d} {used = used} h =
     record { by = λ ev steps o. ap (λ b. run set ev (judged set.names f.symbol v (given_by f old v) (definition_of set.names d f.symbol) b) (state_at d used steps o)) h }
 

@@ -13,10 +13,10 @@ ghost use Rattle.machine_changes.specs.declared.renewal.Operand.{Operand};
 ghost use Rattle.machine_changes.specs.declared.change.Change.{Change};
 ghost use Rattle.machine_changes.specs.Results.{done_with};
 ghost use Rattle.machine_changes.specs.Left.{asked_once, left};
-ghost use Rattle.machine_changes.specs.Renewing.{given_by, left_renewal, next_of, operand_of, put, renewed};
+ghost use Rattle.machine_changes.specs.Renewing.{assigned, given_by, left_renewal, next_of, operand_of, put, renewed};
 
 use crate::change::{Change, done_with};
-use crate::effects::{is_refused, is_shared};
+use crate::effects::{is_refused, is_shared, note_use};
 use crate::shapes::symbol_in;
 use builtin_names::{make, name, symbol_for};
 use evaluation_steps::{Halt, checked};
@@ -149,7 +149,7 @@ impl Renewal {
 
     /// Gives the symbol its new value, unless it is Protected.
     fn renew(&self, scene: &Scene, defs: &mut Defs, old: Expr, value: Expr) -> Result<Expr, Halt>
-        ensures { (used : Bool) (stay : Prog) (rest : Option Tree → Prog) → Stepped (setting_of scene.now) (renewed (names_in scene.now.names.now) self.now old (Some value)) stay defs.old used (done_with result) rest defs.new used }
+        ensures { (used : Bool) (stay : Prog) (rest : Option Tree → Prog) → Stepped (setting_of scene.now) (assigned (names_in scene.now.names.now) self.now old value defs.old) stay defs.old used (done_with result) rest defs.new used }
     {
         if defs.is_protected(scene.names, self.symbol) {
             return Ok(name(scene.names, Builtin::Failed));
@@ -158,10 +158,19 @@ impl Renewal {
     }
 
     /// The new value is there.
-    fn finish(&self, scene: &Scene, defs: &mut Defs, old: Expr, value: Expr) -> Result<Move, Halt>
-        ensures stepped { (used : Bool) (stay : Prog) (rest : Option Tree → Prog) → Stepped (setting_of scene.now) (renewed (names_in scene.now.names.now) self.now old (Some value)) stay defs.old used result rest defs.new used }
+    fn finish(
+        &self,
+        scene: &Scene,
+        defs: &mut Defs,
+        used: &mut bool,
+        old: Expr,
+        value: Expr,
+    ) -> Result<Move, Halt>
+        ensures stepped { (stay : Prog) (rest : Option Tree → Prog) → Stepped (setting_of scene.now) (renewed (names_in scene.now.names.now) self.now old (Some value)) stay defs.old used.old result rest defs.new used.new }
         ensures falls { Falls result 0 (λ answer. 0) }
     {
+        let shared = is_shared(scene, defs, self.symbol);
+        note_use(used, shared);
         done_with(self.renew(scene, defs, old, value))
     }
 
@@ -180,7 +189,7 @@ impl Renewal {
         };
         match answer {
             None => Ok(Move::Done(name(scene.names, Builtin::Null))),
-            Some(value) => self.finish(scene, defs, old, value),
+            Some(value) => self.finish(scene, defs, used, old, value),
         }
     }
 }

@@ -13,7 +13,7 @@ returns-in-Some-answer-clause-stepped c =
     let before : f.before ≡ Some c.in-Some.old = sym c.in-Some.ensures.value in
     λ stay.
     goes_on _ (same_program (before_some names f c.args.answer c.in-Some.old before ∙ ap (renewed names f c.in-Some.old) is))
-    (c.finish.ensures.stepped c.args.used.now stay _)
+    (c.finish.ensures.stepped stay _)
 
 pub returns-in-Some-answer-clause-falls : goal.returns-in-Some-answer-clause-falls
 returns-in-Some-answer-clause-falls c = falls_ended c.finish.result _ _ c.finish.ensures.falls
