@@ -6,10 +6,10 @@ use Rattle.eval_seq.proofs.SymbolLaws.{pass_lost_or, pass_sent, pass_own_some, p
 use Rattle.eval_seq.proofs.symbols.own.Goals as goal
 
 pub returns-then-marks : goal.returns-then-marks
-returns-then-marks g c = λ n. pass_sent c.send_access.result (rw c.if-marks.true at c.marks.ensures) (rw c.symbol.ensures at c.send_access.ensures n)
+returns-then-marks g c = λ n. pass_sent c.send_access.result (rw c.if-marks.true at c.marks.ensures) (rw c.symbol-access.ensures at c.send_access.ensures n)
 
 pub returns-in_err-copy : goal.returns-in_err-copy
-returns-in_err-copy g c = λ n. pass_lost_or (symbol c.args.symbol) c.from_residual-in_err-copy.result c.from_residual-in_err-copy.ensures.1
+returns-in_err-copy g c = λ n. pass_lost_or (symbol c.args.symbol) c.from_residual.result c.from_residual.ensures.1
 
 pub returns-in-Some : goal.returns-in-Some
 returns-in-Some g c = λ n. pass_own_some (rw c.if-marks.false at c.marks.ensures) (sym (c.own_of.ensures (names_in c.args.scene.now.names.now)) ∙ (ap option_copied c.in-Some.is ∙ ap Some (sym c.in_ok-copy.ensures)))

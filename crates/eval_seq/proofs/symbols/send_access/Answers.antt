@@ -5,11 +5,11 @@ use Rattle.eval_seq.proofs.symbols.send_access.Goals as goal
 pub returns-in_err-sent : goal.returns-in_err-sent
 returns-in_err-sent g c = λ n. sent_lost c.from_residual.ensures.1
 
-pub returns-then-reply : goal.returns-then-reply
-returns-then-reply g c = λ n. sent_identical (rw c.in_ok-sent.ensures at c.in-Ok.ensures) (sym c.equals.ensures ∙ c.if-reply.true)
+pub returns-then-equals : goal.returns-then-equals
+returns-then-equals g c = λ n. sent_identical (rw c.in_ok-sent.ensures at c.in-Ok.ensures) (sym c.equals.ensures ∙ c.if-equals.true)
 
-pub returns-in-Ok : goal.returns-in-Ok
-returns-in-Ok g c = λ n. sent_value (rw c.in_ok-sent.ensures at c.in-Ok.ensures) (sym c.equals.ensures ∙ c.if-reply.false)
+pub returns-else-equals : goal.returns-else-equals
+returns-else-equals g c = λ n. sent_value (rw c.in_ok-sent.ensures at c.in-Ok.ensures) (sym c.equals.ensures ∙ c.if-equals.false)
 
 pub returns-in-Err : goal.returns-in-Err
 returns-in-Err g c = λ n. sent_out (rw c.in_ok-sent.ensures at c.in-Err.ensures)
