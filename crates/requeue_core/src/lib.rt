@@ -4,7 +4,5 @@
 
 mod kernels;
 mod lost;
-#[cfg(test)]
-mod tests;
 
 pub use kernels::Kernels;
