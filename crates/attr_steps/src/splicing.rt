@@ -3,17 +3,15 @@ ghost use Rattle.std.specs.Prelude.{◌≡◌, false, IfOk};
 ghost use Rattle.semantics.specs.Assemble.{spliced};
 ghost use Rattle.semantics.specs.Steps.{splice};
 ghost use Rattle.builtin_names.specs.Attributes.{attributes_in};
-ghost use Rattle.builtin_names.specs.Named.{HasBuiltins, names_in};
+ghost use Rattle.builtin_names.specs.Named.{names_in};
 
-use builtin_names::{is_call, items_under};
+use builtin_names::{Vocabulary, is_call, items_under};
 use expr_tree::{Attrs, Expr, Exprs, copy_items};
 use item_list::Items;
-use name_table::Names;
 use semantics::Builtin;
 use std::alloc::{AllocError, Global};
 
-fn has_sequence(names: &Names, items: &[Expr]) -> bool
-    requires names { HasBuiltins names.now }
+fn has_sequence(names: &Vocabulary, items: &[Expr]) -> bool
     ensures { result ≡ false → splice (names_in names.now) items.now ≡ items.now }
 {
     for item in items {
@@ -26,8 +24,7 @@ fn has_sequence(names: &Names, items: &[Expr]) -> bool
 
 /// The elements with those of each `Sequence[..]` in its place.
 #[tactic(auto, using(expr_tree::proofs::Callers::tree_steps))]
-pub fn splice(alloc: Global, names: &Names, items: Exprs) -> Result<Exprs, AllocError>
-    requires names { HasBuiltins names.now }
+pub fn splice(alloc: Global, names: &Vocabulary, items: Exprs) -> Result<Exprs, AllocError>
     ensures { IfOk result (λ r. r ≡ splice (names_in names.now) items) }
 {
     if !has_sequence(names, items.as_slice()) {
@@ -47,11 +44,10 @@ pub fn splice(alloc: Global, names: &Names, items: Exprs) -> Result<Exprs, Alloc
 #[tactic(auto, using(builtin_names::proofs::Flags::flag_steps))]
 pub fn spliced(
     alloc: Global,
-    names: &Names,
+    names: &Vocabulary,
     attrs: &Attrs,
     items: Exprs,
 ) -> Result<Exprs, AllocError>
-    requires names { HasBuiltins names.now }
     ensures { IfOk result (λ r. r ≡ spliced (names_in names.now) (attributes_in attrs.now) items) }
 {
     if attrs.sequence_hold || attrs.hold_all_complete {

@@ -2,18 +2,16 @@
 ghost use Rattle.std.specs.Prelude.{◌≡◌, IfOk};
 ghost use Rattle.std.specs.Option.{option_map};
 ghost use Rattle.semantics.specs.Steps.{unwrapped, strip, has_wrapper};
-ghost use Rattle.builtin_names.specs.Named.{HasBuiltins, names_in};
+ghost use Rattle.builtin_names.specs.Named.{names_in};
 
-use builtin_names::is_name;
+use builtin_names::{Vocabulary, is_name};
 use expr_tree::{Expr, Exprs, Node};
 use item_list::Items;
-use name_table::Names;
 use semantics::Builtin;
 use std::alloc::{AllocError, Global};
 
 #[tactic(auto, using(crate::proofs::Wrappers::wrapper_steps))]
-fn unwrapped<'a>(names: &Names, e: &'a Expr) -> Option<&'a Expr>
-    requires names { HasBuiltins names.now }
+fn unwrapped<'a>(names: &Vocabulary, e: &'a Expr) -> Option<&'a Expr>
     ensures { option_map (λ x. x.now) result ≡ unwrapped (names_in names.now) e.now }
 {
     let Node::Normal(head, items) = e.node() else {
@@ -32,8 +30,7 @@ fn unwrapped<'a>(names: &Names, e: &'a Expr) -> Option<&'a Expr>
 }
 
 /// Whether some element is `Unevaluated[x]`.
-pub fn has_wrapper(names: &Names, items: &[Expr]) -> bool
-    requires names { HasBuiltins names.now }
+pub fn has_wrapper(names: &Vocabulary, items: &[Expr]) -> bool
     ensures { result ≡ has_wrapper (names_in names.now) items.now }
 {
     for item in items {
@@ -46,8 +43,7 @@ pub fn has_wrapper(names: &Names, items: &[Expr]) -> bool
 
 /// The elements, with `x` in the place of each `Unevaluated[x]`.
 #[tactic(auto, using(crate::proofs::Wrappers::none_stripped))]
-pub fn strip(alloc: Global, names: &Names, items: Exprs) -> Result<Exprs, AllocError>
-    requires names { HasBuiltins names.now }
+pub fn strip(alloc: Global, names: &Vocabulary, items: Exprs) -> Result<Exprs, AllocError>
     ensures { IfOk result (λ r. r ≡ strip (names_in names.now) items) }
 {
     if !has_wrapper(names, items.as_slice()) {

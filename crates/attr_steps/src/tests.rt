@@ -1,18 +1,14 @@
 ghost use Rattle.std.specs.Prelude.{IfOk};
-ghost use Rattle.builtin_names.specs.Named.{HasBuiltins};
 
 use crate::{flatten, flattened, order, sorted, splice, spliced, strip, thread, threaded};
-use builtin_names::{make, names_with};
+use builtin_names::{Vocabulary, make, names_with};
 use expr_tree::{Attrs, Expr, Exprs, Sym};
 use item_list::Items;
-use name_table::Names;
 use semantics::Builtin;
 use std::alloc::Global;
 use std::test::Fail;
 
-fn names(alloc: Global) -> Result<Names, Fail>
-    ensures { IfOk result (λ names. HasBuiltins names) }
-{
+fn names(alloc: Global) -> Result<Vocabulary, Fail> {
     Ok(names_with(alloc, &Items::new(alloc))?)
 }
 
@@ -36,9 +32,7 @@ fn are(items: &Exprs, a: i128, b: i128) -> bool {
 }
 
 // row[1, 2] alone
-fn wrapped(alloc: Global, names: &Names, row: Builtin) -> Result<Exprs, Fail>
-    requires names { HasBuiltins names.now }
-{
+fn wrapped(alloc: Global, names: &Vocabulary, row: Builtin) -> Result<Exprs, Fail> {
     one(alloc, make(alloc, names, row, two(alloc, 1, 2)?)?)
 }
 

@@ -4,18 +4,16 @@ ghost use Rattle.expr_tree.specs.Tree.{call, symbol, size, depth};
 ghost use Rattle.semantics.specs.Assemble.{threaded};
 ghost use Rattle.semantics.specs.Steps.{first_length, all_of_length, thread};
 ghost use Rattle.builtin_names.specs.Attributes.{attributes_in};
-ghost use Rattle.builtin_names.specs.Named.{HasBuiltins, names_in};
+ghost use Rattle.builtin_names.specs.Named.{names_in};
 ghost use Rattle.attr_steps.specs.Columns.{at_place, column};
 
-use builtin_names::items_under;
+use builtin_names::{Vocabulary, items_under};
 use expr_tree::{Attrs, Built, Expr, Exprs, Node, Sym};
 use item_list::Items;
-use name_table::Names;
 use semantics::Builtin;
 use std::alloc::{AllocError, Global};
 
-fn first_length(names: &Names, items: &[Expr]) -> Option<usize>
-    requires names { HasBuiltins names.now }
+fn first_length(names: &Vocabulary, items: &[Expr]) -> Option<usize>
     ensures { result ≡ first_length (names_in names.now) items.now }
 {
     for item in items {
@@ -26,8 +24,7 @@ fn first_length(names: &Names, items: &[Expr]) -> Option<usize>
     None
 }
 
-fn all_of_length(names: &Names, length: usize, items: &[Expr]) -> bool
-    requires names { HasBuiltins names.now }
+fn all_of_length(names: &Vocabulary, length: usize, items: &[Expr]) -> bool
     ensures { result ≡ all_of_length (names_in names.now) length items.now }
 {
     for item in items {
@@ -41,8 +38,7 @@ fn all_of_length(names: &Names, length: usize, items: &[Expr]) -> bool
 }
 
 #[tactic(auto, using(crate::proofs::Threads::place_steps))]
-fn at_place<'a>(names: &Names, place: usize, e: &'a Expr) -> &'a Expr
-    requires names { HasBuiltins names.now }
+fn at_place<'a>(names: &Vocabulary, place: usize, e: &'a Expr) -> &'a Expr
     ensures { result.now ≡ at_place (names_in names.now) place e.now }
 {
     match items_under(names, Builtin::List, e) {
@@ -52,8 +48,12 @@ fn at_place<'a>(names: &Names, place: usize, e: &'a Expr) -> &'a Expr
 }
 
 /// The elements with the one at this place of each `List` in its place.
-fn column(alloc: Global, names: &Names, place: usize, items: &[Expr]) -> Result<Exprs, AllocError>
-    requires names { HasBuiltins names.now }
+fn column(
+    alloc: Global,
+    names: &Vocabulary,
+    place: usize,
+    items: &[Expr],
+) -> Result<Exprs, AllocError>
     ensures { IfOk result (λ r. r ≡ column (names_in names.now) place items.now) }
 {
     let mut column = Items::new(alloc);
@@ -67,12 +67,11 @@ fn column(alloc: Global, names: &Names, place: usize, items: &[Expr]) -> Result<
 #[tactic(auto, using(crate::proofs::Bounds::column_bounds))]
 fn call_at(
     alloc: Global,
-    names: &Names,
+    names: &Vocabulary,
     head: Sym,
     place: usize,
     items: &[Expr],
 ) -> Result<Expr, AllocError>
-    requires names { HasBuiltins names.now }
     requires small { size (call (symbol head) items.now) ≤ 4000000 }
     requires shallow { depth (call (symbol head) items.now) ≤ 512 }
     ensures { IfOk result (λ e. e ≡ call (symbol head) (column (names_in names.now) place items.now)) }
@@ -90,11 +89,10 @@ fn call_at(
 #[tactic(auto, using(crate::proofs::Threads::from_start))]
 pub fn thread(
     alloc: Global,
-    names: &Names,
+    names: &Vocabulary,
     head: Sym,
     items: &[Expr],
 ) -> Result<Option<Exprs>, AllocError>
-    requires names { HasBuiltins names.now }
     requires small { size (call (symbol head) items.now) ≤ 4000000 }
     requires shallow { depth (call (symbol head) items.now) ≤ 512 }
     ensures { IfOk result (λ r. r ≡ thread (names_in names.now) head items.now) }
@@ -116,12 +114,11 @@ pub fn thread(
 #[tactic(auto, using(builtin_names::proofs::Flags::flag_steps))]
 pub fn threaded(
     alloc: Global,
-    names: &Names,
+    names: &Vocabulary,
     head: &Expr,
     attrs: &Attrs,
     items: &[Expr],
 ) -> Result<Option<Exprs>, AllocError>
-    requires names { HasBuiltins names.now }
     requires small { size (call head.now items.now) ≤ 4000000 }
     requires shallow { depth (call head.now items.now) ≤ 512 }
     ensures { IfOk result (λ r. r ≡ threaded (names_in names.now) head.now (attributes_in attrs.now) items.now) }

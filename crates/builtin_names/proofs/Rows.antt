@@ -17,15 +17,15 @@ use Rattle.script_text.specs.Spelling.{by_texts, place_in}
 use Rattle.script_text.specs.Laws.{AreDistinct}
 use Rattle.script_text.proofs.Unique.{is_equal, equal_texts, found_at}
 use Rattle.semantics.specs.declared.builtin.Builtin.{Builtin}
-use Rattle.semantics.specs.Builtin.{rows, row_number}
+use Rattle.semantics.specs.Builtin.{rows, row_count, row_number}
 use Rattle.semantics.specs.Names.{IsNames, role_of}
 use Rattle.semantics.specs.Texts.{row_text, row_with, row_at, names_of}
 use Rattle.name_table.specs.Table.{NameTable, places, row_of}
 use Rattle.builtin_names.specs.Named.{HasBuiltins, names_in}
 use Rattle.builtin_names.proofs.Places.{row_here, row_named}
 
-pub within : (row : Builtin) → row_number row < 168
-within row = ltb-true (row_number row) 168 (row_here row).1
+pub within : (row : Builtin) → row_number row < row_count
+within row = ltb-true (row_number row) row_count (row_here row).1
 
 pub names_are : (table : NameTable) → names_in table ≡ names_of table.texts
 unfolding names_in
@@ -77,24 +77,24 @@ known_here table has row =
     ∙ get_or-map (λ r. place_in table.texts (row_text r)) rows (row_number row) Builtin.Plus 0 (within row)
     ∙ ap (λ r. place_in table.texts (row_text r)) (row_here row).0
 
-pub known_count : (table : NameTable) → HasBuiltins table → length table.known ≡ 168
+pub known_count : (table : NameTable) → HasBuiltins table → length table.known ≡ row_count
 known_count table has = ap length has.known
 
-base_of : (table : NameTable) → HasBuiltins table → (i : ℕ) → i < length table.known → (i < 168) × (get_or table.known i 0 ≡ place_in table.texts (row_text (get_or rows i Builtin.Plus)))
+base_of : (table : NameTable) → HasBuiltins table → (i : ℕ) → i < length table.known → (i < row_count) × (get_or table.known i 0 ≡ place_in table.texts (row_text (get_or rows i Builtin.Plus)))
 base_of table has i h =
-    let few : i < 168 = rw (← known_count table has) h in (
+    let few : i < row_count = rw (← known_count table has) h in (
       few,
       ap (λ known. get_or known i 0) has.known
           ∙ get_or-map (λ r. place_in table.texts (row_text r)) rows i Builtin.Plus 0 few,
     )
 
 pub role_there : (table : NameTable) → HasBuiltins table → (s : Sym) (i : ℕ) → row_of table s ≡ Some i
-    → (i < 168) × (role_of (names_in table) s ≡ Some (get_or rows i Builtin.Plus))
+    → (i < row_count) × (role_of (names_in table) s ≡ Some (get_or rows i Builtin.Plus))
 unfolding names_in
 role_there table has s i e = go (s.number == 0) e
   where
     go : (plain : Bool) → (if plain then position (λ base. base == s.base) table.known else None) ≡ Some i
-        → (i < 168) × (elim plain as (λ _. Option Builtin) [ true ↦ row_at table.texts s.base | false ↦ None ] ≡ Some (get_or rows i Builtin.Plus))
+        → (i < row_count) × (elim plain as (λ _. Option Builtin) [ true ↦ row_at table.texts s.base | false ↦ None ] ≡ Some (get_or rows i Builtin.Plus))
     go true e =
         let p = position-Some (λ base. base == s.base) table.known i 0 e in
         let b = base_of table has i p.0 in
@@ -129,10 +129,10 @@ no_role table has distinct s e = go (s.number == 0) e
     go false e = refl
 
 -- the table of the program, by its rows
-pub rows_count : (rs : List Row) → entries rs ≡ map builtin_entry rows → length rs ≡ 168
+pub rows_count : (rs : List Row) → entries rs ≡ map builtin_entry rows → length rs ≡ row_count
 rows_count rs e = sym (length-map rs entry) ∙ ap length e
 
-pub entry_here : (rs : List Row) (d : Row) → entries rs ≡ map builtin_entry rows → (i : ℕ) → i < 168 → entry (get_or rs i d) ≡ builtin_entry (get_or rows i Builtin.Plus)
+pub entry_here : (rs : List Row) (d : Row) → entries rs ≡ map builtin_entry rows → (i : ℕ) → i < row_count → entry (get_or rs i d) ≡ builtin_entry (get_or rows i Builtin.Plus)
 entry_here rs d e i h =
     let long : i < length rs = rw (rows_count rs e) h in
     sym (get_or-map entry rs i d (entry d) long)
@@ -170,5 +170,5 @@ has_builtins table is kept =
     ap (λ k. get_or k (row_number row) 0) known
     ∙ get_or-map (λ r. place_in table.texts (row_text r)) rows (row_number row) Builtin.Plus 0 (within row)
     ∙ ap (λ r. place_in table.texts (row_text r)) (row_here row).0 in
-    let long : length table.known ≡ 168 = ap length known in
+    let long : length table.known ≡ row_count = ap length known in
     record { known = known; kept = λ row. rw (← here row) (kept (row_number row) (rw long (within row))) }

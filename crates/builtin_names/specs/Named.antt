@@ -1,6 +1,6 @@
 -- The rows of the built-in table among the names of a script.
 --     names_in              the names that an evaluation goes by, from a table of names
---     HasBuiltins           the known names of the table are those of the rows, in their order
+--     HasBuiltins           the known names of the table are those of the rows, in their order: the invariant of a vocabulary
 use Rattle.std.specs.Prelude.{◌≡◌, ◌<◌, map, length}
 use Rattle.script_text.specs.Spelling.{place_in}
 use Rattle.name_table.specs.Table.{NameTable}

@@ -10,9 +10,11 @@ mod symbols;
 mod table;
 #[cfg(test)]
 mod tests;
+mod vocabulary;
 
 pub use attributes::first_attrs;
 pub use fault::Fault;
 pub use shapes::{is_call, is_name, items_of, items_under, make, name, truth};
 pub use symbols::{is_known, role_of, rows_are_names, symbol_for};
 pub use table::names_with;
+pub use vocabulary::Vocabulary;

@@ -3,9 +3,9 @@ ghost use Rattle.std.specs.Prelude.{◌≡◌, ◌<◌, ◌+◌, ◌^◌, ◌++�
 ghost use Rattle.script_text.specs.Spelling.{bases};
 ghost use Rattle.semantics.specs.Builtin.{rows};
 ghost use Rattle.semantics.specs.Texts.{row_text};
-ghost use Rattle.builtin_names.specs.Named.{HasBuiltins};
 
 use crate::symbols::row_of_place;
+use crate::vocabulary::Vocabulary;
 use case_table::{BUILTINS, name_of};
 use expr_tree::{Text, Texts};
 use item_list::Items;
@@ -24,13 +24,12 @@ fn row_names(alloc: Global) -> Result<Texts, AllocError>
 }
 
 /// The bases of the built-in table and of some texts, each of which is a name; the known names are those of the table.
-pub fn names_with(alloc: Global, texts: &Texts) -> Result<Names, AllocError>
+pub fn names_with(alloc: Global, texts: &Texts) -> Result<Vocabulary, AllocError>
     requires { length texts.now < 2 ^ 31 }
     ensures texts { IfOk result (λ names. names.texts ≡ bases (map row_text rows ++ texts.now)) }
-    ensures known { IfOk result (λ names. HasBuiltins names) }
 {
     let known = row_names(alloc)?;
     let names = Names::of_texts(alloc, &known, texts)?;
     names.known_are_kept();
-    Ok(names)
+    Ok(Vocabulary::new(names))
 }

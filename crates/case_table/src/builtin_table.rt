@@ -7,9 +7,6 @@ use crate::table::{CaseTable, Code, Row};
 use expr_tree::Attrs;
 use semantics::Builtin;
 
-/// The number of the names of the built-in table.
-pub const BUILTINS: usize = 168;
-
 // each name of the built-in table in the order of its places, its text, and the attributes that it has at the start
 macro_rules! each_builtin {
     ($make:ident $($argument:tt)*) => {
@@ -186,6 +183,15 @@ macro_rules! each_builtin {
         }
     };
 }
+
+macro_rules! builtin_count {
+    ($(($code:ident $name:literal $attrs:tt))*) => {
+        [$($name),*].len()
+    };
+}
+
+/// The number of the names of the built-in table.
+pub const BUILTINS: usize = each_builtin!(builtin_count);
 
 macro_rules! builtin_rows {
     ($(($code:ident $name:literal [$($attr:ident)*]))*) => {

@@ -4,7 +4,7 @@ use std::test::Fail;
 #[test]
 fn names_have_places(rt: HostRuntime) -> Result<(), Fail> {
     assert_eq!(rt; builtins().find("Plus"), Some(0));
-    assert_eq!(rt; builtins().find("$KernelCount"), Some(167));
+    assert_eq!(rt; builtins().find("$KernelCount"), Some(BUILTINS - 1));
     assert_eq!(rt; builtins().find("plus"), None);
     assert_eq!(rt; operators().find("==="), Some(0));
     assert_eq!(rt; builtins().rows.len(), BUILTINS);

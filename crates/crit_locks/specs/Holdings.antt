@@ -9,7 +9,7 @@
 use Rattle.std.specs.Prelude.{◌≡◌, ℕ, List, [], ◌∷◌, true, false, ◌==◌, Option, Some, None}
 use Rattle.expr_tree.specs.declared.sym.Sym.{Sym}
 use Rattle.expr_tree.specs.Same.{symbol_eq}
-use Rattle.journal.specs.Entry.{Event}
+use Rattle.journal.specs.declared.event.Event.{Event}
 use Rattle.journal.specs.Core.{kernel_after}
 use Rattle.crit_locks.specs.declared.held.Held.{Held}
 

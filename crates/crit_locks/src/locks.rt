@@ -1,6 +1,6 @@
 ghost use Rattle.std.specs.Prelude.{◌≡◌, ℕ, ◌+◌, ◌≤◌, [], ◌++◌, length, map, take, false, true, MatchOption, OnOk, OnErr, IfErr, None, Some, vec_len, vec_capacity};
 ghost use Rattle.expr_tree.specs.Substitution.{among};
-ghost use Rattle.journal.specs.Entry as journal;
+ghost use Rattle.journal.specs.declared.event.Event.TheVariants.{Enter, Leave};
 ghost use Rattle.crit_locks.specs.Holdings.{locks_by, holder_of, first_held, held_by, without, HeldAfter};
 
 use crate::held::Held;
@@ -49,7 +49,7 @@ impl Locks {
         requires outside { locks_by kernel self.old.held ≡ [] }
         ensures free { OnOk result (first_held self.old.held locks.now ≡ None) }
         ensures entered { OnOk result (self.new ≡ record self.old { held = self.old.held ++ map (held_by kernel) locks.now }) }
-        ensures locks { OnOk result (HeldAfter (journal.Event.Enter locks.now) kernel self.old.held self.new.held) }
+        ensures locks { OnOk result (HeldAfter (Enter locks.now) kernel self.old.held self.new.held) }
         ensures first { IfErr result (λ held. first_held self.old.held locks.now ≡ Some held) }
         ensures err { OnErr result (self.new ≡ self.old) }
     {
@@ -64,7 +64,7 @@ impl Locks {
     pub fn leave(&mut self, kernel: u32)
         requires inside { locks_by kernel self.old.held ≡ [] → ⊥ }
         ensures left { self.new ≡ record self.old { held = without kernel self.old.held } }
-        ensures locks { HeldAfter journal.Event.Leave kernel self.old.held self.new.held }
+        ensures locks { HeldAfter Leave kernel self.old.held self.new.held }
     {
         self.free_all(kernel);
     }
@@ -72,7 +72,7 @@ impl Locks {
     /// Whatever locks the kernel holds are free.
     pub fn free_all(&mut self, kernel: u32)
         ensures left { self.new ≡ record self.old { held = without kernel self.old.held } }
-        ensures locks { HeldAfter journal.Event.Leave kernel self.old.held self.new.held }
+        ensures locks { HeldAfter Leave kernel self.old.held self.new.held }
     {
         self.held.retain(|held| held.by != kernel);
     }

@@ -5,9 +5,10 @@ use Rattle.std.proofs.lemmas.Bool.{ne_eqb}
 use Rattle.std.proofs.lemmas.List.{drop_all, length-map}
 use Rattle.journal.specs.Places.{each_from}
 use Rattle.journal.specs.Closure.{Bundle}
-use Rattle.journal.specs.Core.{Status, is_waiting, may_go, first_for}
-use Rattle.eval_queue.specs.declared.entry.Entry.{Entry}
-use Rattle.eval_queue.specs.Items.{Kept, kept, items_in, changed, with_status, none_waits, status_of, item_of, IsPassed}
+use Rattle.journal.specs.declared.item.Status.{Status}
+use Rattle.journal.specs.Core.{is_waiting, may_go, first_for}
+use Rattle.eval_queue.specs.declared.kept.Kept.{Kept}
+use Rattle.eval_queue.specs.Items.{items_in, changed, with_status, none_waits, IsPassed}
 
 -- the same, whatever is kept beside the items
 abbrev pub least : {B : Type 0} → ℕ → List (Kept B) → ℕ → Option ℕ
@@ -26,83 +27,77 @@ not_both false b e = (refl, e)
 skipped : (a b : Bool) (x y : Option ℕ) → a ≡ false → elim (a && b) as (λ _. Option ℕ) [ true ↦ x | false ↦ y ] ≡ y
 skipped a b x y e = ap (λ c. elim (c && b) as (λ _. Option ℕ) [ true ↦ x | false ↦ y ]) e
 
-within_map : {B : Type 0} (es : List (Entry B)) (n : ℕ) → n ≤ length (map kept es) → n ≤ length es
-within_map es n p = subst (λ m. n ≤ m) (length-map es kept) p
-
-map_within : {B : Type 0} (es : List (Entry B)) (n : ℕ) → n ≤ length es → n ≤ length (map kept es)
-map_within es n p = subst (λ m. n ≤ m) (sym (length-map es kept)) p
-
 -- what is passed over holds nothing
-over : {B : Type 0} (es : List (Entry B)) (n id k : ℕ) → n ≤ length es → none_waits (take n (map kept es)) ≡ true
-    → least (id + n) (map kept (drop n es)) k ≡ least id (map kept es) k
+over : {B : Type 0} (es : List (Kept B)) (n id k : ℕ) → n ≤ length es → none_waits (take n es) ≡ true
+    → least (id + n) (drop n es) k ≡ least id es k
 over [] zero id k le none = refl
 over [] (suc n) id k le none = absurd (omega (arith, le))
-over (e ∷ es) zero id k le none = ap (λ m. least m (map kept (e ∷ es)) k) (omega arith)
+over (e ∷ es) zero id k le none = ap (λ m. least m (e ∷ es) k) (omega arith)
 over (e ∷ es) (suc n) id k le none =
-    let parts = not_both (is_waiting (status_of e.state)) (none_waits (take n (map kept es))) none in
+    let parts = not_both (is_waiting e.status) (none_waits (take n es)) none in
     let at : id + suc n ≡ suc id + n = omega arith in
-    ap (λ m. least m (map kept (drop n es)) k) at
+    ap (λ m. least m (drop n es) k) at
     ∙ (over es n (suc id) k (omega (arith, le)) parts.1
-    ∙ sym (skipped (is_waiting (status_of e.state)) (may_go (item_of e.item) k) (Some id) (least (suc id) (map kept es) k) parts.0))
+    ∙ sym (skipped (is_waiting e.status) (may_go e.item k) (Some id) (least (suc id) es k) parts.0))
 
-pub passed_over : {B : Type 0} (es : List (Entry B)) (n k : ℕ) → IsPassed n (map kept es) → least (suc n) (map kept (drop n es)) k ≡ least 1 (map kept es) k
+pub passed_over : {B : Type 0} (es : List (Kept B)) (n k : ℕ) → IsPassed n es → least (suc n) (drop n es) k ≡ least 1 es k
 passed_over es n k is =
     let at : suc n ≡ 1 + n = omega arith in
-    ap (λ m. least m (map kept (drop n es)) k) at ∙ over es n 1 k (within_map es n is.within) is.passed
+    ap (λ m. least m (drop n es) k) at ∙ over es n 1 k is.within is.passed
 
-least_at : {B : Type 0} (es : List (Entry B)) (p k : ℕ) (x : Entry B) → p < length es → x ≡ get_or es p x
-    → least (suc p) (map kept (drop p es)) k
-    ≡ elim (is_waiting (status_of x.state) && may_go (item_of x.item) k) as (λ _. Option ℕ) [ true ↦ Some (suc p) | false ↦ least (suc (suc p)) (map kept (drop (suc p) es)) k ]
+least_at : {B : Type 0} (es : List (Kept B)) (p k : ℕ) (x : Kept B) → p < length es → x ≡ get_or es p x
+    → least (suc p) (drop p es) k
+    ≡ elim (is_waiting x.status && may_go x.item k) as (λ _. Option ℕ) [ true ↦ Some (suc p) | false ↦ least (suc (suc p)) (drop (suc p) es) k ]
 least_at {B} es p k x lt is = from es p p x lt is
   where
-    from : (fs : List (Entry B)) (n id : ℕ) (y : Entry B) → n < length fs → y ≡ get_or fs n y
-        → least (suc id) (map kept (drop n fs)) k
-        ≡ elim (is_waiting (status_of y.state) && may_go (item_of y.item) k) as (λ _. Option ℕ) [ true ↦ Some (suc id) | false ↦ least (suc (suc id)) (map kept (drop (suc n) fs)) k ]
+    from : (fs : List (Kept B)) (n id : ℕ) (y : Kept B) → n < length fs → y ≡ get_or fs n y
+        → least (suc id) (drop n fs) k
+        ≡ elim (is_waiting y.status && may_go y.item k) as (λ _. Option ℕ) [ true ↦ Some (suc id) | false ↦ least (suc (suc id)) (drop (suc n) fs) k ]
     from [] n id y l e = absurd (omega (arith, l))
     from (f ∷ fs) zero id y l e =
-        ap (λ z. elim (is_waiting (status_of z.state) && may_go (item_of z.item) k) as (λ _. Option ℕ) [ true ↦ Some (suc id) | false ↦ least (suc (suc id)) (map kept fs) k ]) (sym e)
+        ap (λ z. elim (is_waiting z.status && may_go z.item k) as (λ _. Option ℕ) [ true ↦ Some (suc id) | false ↦ least (suc (suc id)) fs k ]) (sym e)
     from (f ∷ fs) (suc n) id y l e = from fs n id y (omega (arith, l)) e
 
-pub step_on : {B : Type 0} (es : List (Entry B)) (p k : ℕ) (x : Entry B) (o : Option ℕ) → p < length es → x ≡ get_or es p x
-    → (is_waiting (status_of x.state) && may_go (item_of x.item) k) ≡ false
-    → least (suc p) (map kept (drop p es)) k ≡ o → least (suc (p + 1)) (map kept (drop (p + 1) es)) k ≡ o
+pub step_on : {B : Type 0} (es : List (Kept B)) (p k : ℕ) (x : Kept B) (o : Option ℕ) → p < length es → x ≡ get_or es p x
+    → (is_waiting x.status && may_go x.item k) ≡ false
+    → least (suc p) (drop p es) k ≡ o → least (suc (p + 1)) (drop (p + 1) es) k ≡ o
 step_on es p k x o lt is not_it e =
     let at : p + 1 ≡ suc p = omega arith in
-    ap (λ n. least (suc n) (map kept (drop n es)) k) at
+    ap (λ n. least (suc n) (drop n es) k) at
     ∙ (sym (least_at es p k x lt is
-    ∙ ap (λ b. elim b as (λ _. Option ℕ) [ true ↦ Some (suc p) | false ↦ least (suc (suc p)) (map kept (drop (suc p) es)) k ]) not_it) ∙ e)
+    ∙ ap (λ b. elim b as (λ _. Option ℕ) [ true ↦ Some (suc p) | false ↦ least (suc (suc p)) (drop (suc p) es) k ]) not_it) ∙ e)
 
-pub found_here : {B : Type 0} (es : List (Entry B)) (p k : ℕ) (x : Entry B) → p < length es → x ≡ get_or es p x
-    → (is_waiting (status_of x.state) && may_go (item_of x.item) k) ≡ true
-    → least (suc p) (map kept (drop p es)) k ≡ least 1 (map kept es) k
-    → (b : B → Bundle) → Some (p + 1) ≡ first_for 1 (items_in b (map kept es)) k
+pub found_here : {B : Type 0} (es : List (Kept B)) (p k : ℕ) (x : Kept B) → p < length es → x ≡ get_or es p x
+    → (is_waiting x.status && may_go x.item k) ≡ true
+    → least (suc p) (drop p es) k ≡ least 1 es k
+    → (b : B → Bundle) → Some (p + 1) ≡ first_for 1 (items_in b es) k
 found_here es p k x lt is it e b =
     let at : p + 1 ≡ suc p = omega arith in
     ap (λ n. Some n) at
     ∙ (sym (least_at es p k x lt is
-    ∙ ap (λ b. elim b as (λ _. Option ℕ) [ true ↦ Some (suc p) | false ↦ least (suc (suc p)) (map kept (drop (suc p) es)) k ]) it)
-    ∙ (e ∙ least_is_first b 1 (map kept es) k))
+    ∙ ap (λ b. elim b as (λ _. Option ℕ) [ true ↦ Some (suc p) | false ↦ least (suc (suc p)) (drop (suc p) es) k ]) it)
+    ∙ (e ∙ least_is_first b 1 es k))
 
-pub found_nowhere : {B : Type 0} (es : List (Entry B)) (p k : ℕ) → length es ≤ p
-    → least (suc p) (map kept (drop p es)) k ≡ least 1 (map kept es) k
-    → (b : B → Bundle) → None ≡ first_for 1 (items_in b (map kept es)) k
+pub found_nowhere : {B : Type 0} (es : List (Kept B)) (p k : ℕ) → length es ≤ p
+    → least (suc p) (drop p es) k ≡ least 1 es k
+    → (b : B → Bundle) → None ≡ first_for 1 (items_in b es) k
 found_nowhere es p k past e b =
-    ap (λ fs. least (suc p) (map kept fs) k) (sym (drop_all p es past)) ∙ (e ∙ least_is_first b 1 (map kept es) k)
+    ap (λ fs. least (suc p) fs k) (sym (drop_all p es past)) ∙ (e ∙ least_is_first b 1 es k)
 
 -- one item more does not wait
-one : {B : Type 0} (es : List (Entry B)) (p : ℕ) (x : Entry B) → p < length es → x ≡ get_or es p x → is_waiting (status_of x.state) ≡ false
-    → none_waits (take p (map kept es)) ≡ true → none_waits (take (suc p) (map kept es)) ≡ true
+one : {B : Type 0} (es : List (Kept B)) (p : ℕ) (x : Kept B) → p < length es → x ≡ get_or es p x → is_waiting x.status ≡ false
+    → none_waits (take p es) ≡ true → none_waits (take (suc p) es) ≡ true
 one [] p x lt is w none = absurd (omega (arith, lt))
-one (e ∷ es) zero x lt is w none = ap (λ y. not (is_waiting (status_of y.state)) && true) (sym is) ∙ ap (λ a. not a && true) w
+one (e ∷ es) zero x lt is w none = ap (λ y. not (is_waiting y.status) && true) (sym is) ∙ ap (λ a. not a && true) w
 one (e ∷ es) (suc p) x lt is w none =
-    let parts = not_both (is_waiting (status_of e.state)) (none_waits (take p (map kept es))) none in
-    ap (λ a. not a && none_waits (take (suc p) (map kept es))) parts.0 ∙ one es p x (omega (arith, lt)) is w parts.1
+    let parts = not_both (is_waiting e.status) (none_waits (take p es)) none in
+    ap (λ a. not a && none_waits (take (suc p) es)) parts.0 ∙ one es p x (omega (arith, lt)) is w parts.1
 
-pub one_more : {B : Type 0} (es : List (Entry B)) (p : ℕ) (x : Entry B) → p < length es → x ≡ get_or es p x → is_waiting (status_of x.state) ≡ false
-    → IsPassed p (map kept es) → IsPassed (p + 1) (map kept es)
+pub one_more : {B : Type 0} (es : List (Kept B)) (p : ℕ) (x : Kept B) → p < length es → x ≡ get_or es p x → is_waiting x.status ≡ false
+    → IsPassed p es → IsPassed (p + 1) es
 one_more es p x lt is w passed =
-    subst (λ n. IsPassed n (map kept es)) (omega arith)
-    (record { within = map_within es (suc p) (omega (arith, lt)); passed = one es p x lt is w passed.passed })
+    let next : suc p ≡ p + 1 = omega arith in
+    subst (λ n. IsPassed n es) next (record { within = omega (arith, lt); passed = one es p x lt is w passed.passed })
 
 -- ---- a status that changes
 

@@ -3,11 +3,11 @@
 //! states these are.
 #![tactic(auto)]
 
-mod entry;
-mod item;
+mod kept;
 mod queue;
 #[cfg(test)]
 mod tests;
 
-pub use item::{Item, State};
+pub use journal::{Item, Status as State};
+pub use kept::Kept;
 pub use queue::Queue;

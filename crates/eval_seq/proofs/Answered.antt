@@ -8,14 +8,14 @@ use Rattle.expr_tree.specs.declared.limits.Limits.{Limits}
 use Rattle.semantics.specs.Program.{Prog, Done}
 use Rattle.semantics.specs.Assemble.{check_all}
 use Rattle.semantics.specs.Play.{Setting, State, too_large}
+use Rattle.evaluation_steps.specs.declared.Exit.{Exit}
 use Rattle.evaluation_steps.specs.declared.Halt.{Halt}
-use Rattle.evaluation_steps.specs.Leads.{Step}
+use Rattle.evaluation_steps.specs.Leads.{Step, exit_of}
 use Rattle.evaluation_steps.specs.Words.{Fits}
 use Rattle.evaluation_steps.specs.Stopping.{HaltsFor}
 use Rattle.evaluation_steps.specs.Moves.{Shows, same, fitting, HasStopped, large, passing}
 use Rattle.evaluation_steps.proofs.Laws.{reached_played, played_done, played_memory, fits_none, fits_some}
 use Rattle.evaluation_steps.proofs.Moving.{reached_shows, played_stops}
-use Rattle.eval_seq.specs.declared.ending.Ending.{Ending}
 use Rattle.eval_seq.specs.Walks as w
 use Rattle.eval_seq.specs.Walks.{PassOf}
 use Rattle.eval_seq.specs.Sequence.{Answers}
@@ -57,20 +57,16 @@ answers_done a = record { by = a }
 
 pub answers_large : {limits : Limits} {p : Prog} {v : Tree} {h : Halt} → Shows limits p (Done v) → HaltsFor limits v h → Answers limits p (Err h)
 answers_large {v = v} {h = Halt.Stopped c} a f = record { by = inr (v, a, f.by) }
-answers_large {h = Halt.Quit} a f = absurd f.by
-answers_large {h = Halt.Closed} a f = absurd f.by
 answers_large {h = Halt.NoMemory} a f = record { by = tt }
 
 pub pass_answers : {S : Type 0} {step : Step S} {set : Setting} {n : ℕ} {p : Prog} {s : S} {st : State} (r : Result Tree Halt) → Answers set.limits p r →
-    PassOf step set n p s st (elim r [ Ok v ↦ Ok v | Err h ↦ Err (Ending.Halt h) ]) st s
+    PassOf step set n p s st (elim r [ Ok v ↦ Ok v | Err h ↦ Err (exit_of h) ]) st s
 pass_answers (Ok v) a = w.valued (reached_played (reached_shows a.by) played_done)
 pass_answers {step = step} {set = set} {n = n} {p = p} {s = s} {st = st} (Err (Halt.Stopped c)) a = go a.by
   where
-    go : HasStopped set.limits p c ⊎ ((v : Tree) × Shows set.limits p (Done v) × (too_large set.limits v ≡ Some c)) → PassOf step set n p s st (Err (Ending.Halt (Halt.Stopped c))) st s
-    go (inl b) = w.halted (played_stops b)
+    go : HasStopped set.limits p c ⊎ ((v : Tree) × Shows set.limits p (Done v) × (too_large set.limits v ≡ Some c)) → PassOf step set n p s st (Err (Exit.Stopped c)) st s
+    go (inl b) = w.ended (played_stops b)
     go (inr b) = w.large (reached_played (reached_shows b.1) played_done) b.2
-pass_answers (Err Halt.Quit) a = absurd a.by
-pass_answers (Err Halt.Closed) a = absurd a.by
-pass_answers (Err Halt.NoMemory) a = w.halted played_memory
+pass_answers (Err Halt.NoMemory) a = w.ended played_memory
 
 pub ruleset listed_steps = (answers_done, answers_large)

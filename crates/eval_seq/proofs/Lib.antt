@@ -1,4 +1,5 @@
 pub mod PlainRows
+pub mod Sound
 pub mod Walking
 pub mod RowStarts
 pub mod Driving
@@ -10,4 +11,6 @@ pub mod SymbolLaws
 pub mod StepLaws
 pub mod SequenceLaws
 pub mod Readiness
+pub mod Locked
 pub mod Telling
+pub mod Among

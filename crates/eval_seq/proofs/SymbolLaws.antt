@@ -12,12 +12,11 @@ use Rattle.semantics.specs.Program.{Prog, Done, Look, Outer, Access, Moded, Seen
 use Rattle.semantics.specs.Sections.{access_or, unless_identical}
 use Rattle.semantics.specs.Pass.{symbol_pass, symbol_row, number_in, own_value, marked}
 use Rattle.semantics.specs.Play.{Setting, State, run, eval_at, seen, now_used}
-use Rattle.evaluation_steps.specs.declared.Halt.{Halt}
+use Rattle.evaluation_steps.specs.declared.Exit.{Exit}
 use Rattle.evaluation_steps.specs.Leads.{Step, Leads, here}
 use Rattle.evaluation_steps.specs.Words.{Reached, Called}
 use Rattle.evaluation_steps.proofs.Laws.{reached_moded, reached_outer, played_outer, played_outer_out, played_done, played_memory}
-use Rattle.eval_seq.specs.declared.ending.Ending.{Ending}
-use Rattle.eval_seq.specs.Walks.{or_itself, PassOf, valued, halted, Stepped}
+use Rattle.eval_seq.specs.Walks.{or_itself, PassOf, valued, ended, Stepped}
 use Rattle.eval_seq.specs.Sequence.{Marks, Uses, sent_or}
 use Rattle.eval_seq.proofs.Walking.{pass_on}
 
@@ -31,15 +30,15 @@ replied : (e v : Tree) (stay : Prog) {b : Bool} → same v e ≡ b → unless_id
 replied e v stay is = ap (λ b. elim b as (λ _. Prog) [ true ↦ stay | false ↦ Done v ]) is
 
 module _ {S : Type 0} {step : Step S} {set : Setting} {n : ℕ} where
-  pub pass_is : {p q : Prog} {r : Result Tree Ending} {s z : S} {st st' : State} → p ≡ q → PassOf step set n q s st r st' z → PassOf step set n p s st r st' z
+  pub pass_is : {p q : Prog} {r : Result Tree Exit} {s z : S} {st st' : State} → p ≡ q → PassOf step set n q s st r st' z → PassOf step set n p s st r st' z
   pass_is e a = rw e a
 
-  pub pass_err_or : {p : Prog} (e : Tree) {x : Ending} (r : Result (Option Tree) Ending) {s z : S} {st st' : State} → IsErrAnd r (λ y. y ≡ x) → PassOf step set n p s st (Err x) st' z → PassOf step set n p s st (or_itself e r) st' z
+  pub pass_err_or : {p : Prog} (e : Tree) {x : Exit} (r : Result (Option Tree) Exit) {s z : S} {st st' : State} → IsErrAnd r (λ y. y ≡ x) → PassOf step set n p s st (Err x) st' z → PassOf step set n p s st (or_itself e r) st' z
   pass_err_or e (Ok v) i a = absurd i
   pass_err_or e (Err y) i a = rw i a
 
-  pub pass_lost_or : {p : Prog} (e : Tree) (r : Result (Option Tree) Ending) {s : S} {st st' : State} → IsErrAnd r (λ y. y ≡ Ending.Halt Halt.NoMemory) → PassOf step set n p s st (or_itself e r) st' s
-  pass_lost_or e r i = pass_err_or e r i (halted played_memory)
+  pub pass_lost_or : {p : Prog} (e : Tree) (r : Result (Option Tree) Exit) {s : S} {st st' : State} → IsErrAnd r (λ y. y ≡ Exit.NoMemory) → PassOf step set n p s st (or_itself e r) st' s
+  pass_lost_or e r i = pass_err_or e r i (ended played_memory)
 
   pub marks_on : {kind : Share} {i : Sym} {b : Bool} {st st' : State} {s : S} → Marks set kind i st b st' → (e : Tree) (stay : Prog) (q : Seen → Prog) →
       Reached step set n (Look i (λ it. access_or it.shared kind e stay (marked it.shared (q it)))) s st (sent_or b e stay (q (seen set.names st.definitions i))) st' s
@@ -61,17 +60,17 @@ module _ {S : Type 0} {step : Step S} {set : Setting} {n : ℕ} where
       Stepped step set n (λ rest. Outer (Access e) (unless_identical e rest)) s st (Ok (Some v)) st' z
   sent_value {e = e} {v = v} a is = record { by = λ rest. pass_on (reached_outer a) (pass_is (replied e v rest is) (valued played_done)) }
 
-  pub sent_out : {e : Tree} {h : Halt} {s z : S} {st st' : State} → Called step (Sends (Access e)) s st (Err h) st' z →
-      Stepped step set n (λ rest. Outer (Access e) (unless_identical e rest)) s st (Err (Ending.Halt h)) st' z
-  sent_out a = record { by = λ rest. halted (played_outer_out a) }
+  pub sent_out : {e : Tree} {h : Exit} {s z : S} {st st' : State} → Called step (Sends (Access e)) s st (Err h) st' z →
+      Stepped step set n (λ rest. Outer (Access e) (unless_identical e rest)) s st (Err (h)) st' z
+  sent_out a = record { by = λ rest. ended (played_outer_out a) }
 
-  pub sent_lost : {e : Tree} {s : S} {st : State} {r : Result (Option Tree) Ending} → IsErrAnd r (λ y. y ≡ Ending.Halt Halt.NoMemory) →
+  pub sent_lost : {e : Tree} {s : S} {st : State} {r : Result (Option Tree) Exit} → IsErrAnd r (λ y. y ≡ Exit.NoMemory) →
       Stepped step set n (λ rest. Outer (Access e) (unless_identical e rest)) s st r st s
   sent_lost {r = Ok v} i = absurd i
-  sent_lost {r = Err y} i = rw i (record { by = λ rest. halted played_memory })
+  sent_lost {r = Err y} i = rw i (record { by = λ rest. ended played_memory })
 
   -- a symbol stays where the reply is the symbol
-  pub pass_sent : {i : Sym} {st st' st'' : State} {s z : S} (r : Result (Option Tree) Ending) → Marks set Variable i st true st' →
+  pub pass_sent : {i : Sym} {st st' st'' : State} {s z : S} (r : Result (Option Tree) Exit) → Marks set Variable i st true st' →
       Stepped step set n (λ rest. Outer (Access (symbol i)) (unless_identical (symbol i) rest)) s st' r st'' z → PassOf step set n (symbol_pass set.names i) s st (or_itself (symbol i) r) st'' z
   pass_sent {i = i} (Ok None) m a = pass_on (marks_on m (symbol i) (Done (symbol i)) (own_value set.names i)) (pass_on (a.by (Done (symbol i))) (valued played_done))
   pass_sent {i = i} (Ok (Some v)) m a = pass_on (marks_on m (symbol i) (Done (symbol i)) (own_value set.names i)) (a.by (Done (symbol i)))
@@ -81,7 +80,7 @@ module _ {S : Type 0} {step : Step S} {set : Setting} {n : ℕ} where
   pass_own_some {i = i} m e =
       pass_on (marks_on m (symbol i) (Done (symbol i)) (own_value set.names i)) (pass_is (ap (λ o. elim o as (λ _. Prog) [ None ↦ symbol_row set.names i | Some x ↦ Done x ]) e) (valued played_done))
 
-  pub pass_own_none : {i : Sym} {r : Result Tree Ending} {st st' st'' : State} {s z : S} → Marks set Variable i st false st' → (definition_of set.names st.definitions i).own ≡ None →
+  pub pass_own_none : {i : Sym} {r : Result Tree Exit} {st st' st'' : State} {s z : S} → Marks set Variable i st false st' → (definition_of set.names st.definitions i).own ≡ None →
       PassOf step set n (symbol_row set.names i) s st' r st'' z → PassOf step set n (symbol_pass set.names i) s st r st'' z
   pass_own_none {i = i} m e a =
       pass_on (marks_on m (symbol i) (Done (symbol i)) (own_value set.names i)) (pass_is (ap (λ o. elim o as (λ _. Prog) [ None ↦ symbol_row set.names i | Some x ↦ Done x ]) e) a)
@@ -93,9 +92,9 @@ module _ {S : Type 0} {step : Step S} {set : Setting} {n : ℕ} where
       Called step (Sends Count) s (now_used st) (Ok v) st' z → PassOf step set n (symbol_row set.names i) s st (Ok v) st' z
   row_count i e f a = pass_is (row_is set i false true e f) (pass_on reached_moded (valued (played_outer a)))
 
-  pub row_count_out : (i : Sym) {h : Halt} {st st' : State} {s z : S} → is_known set.names Builtin.KernelID i ≡ false → is_known set.names Builtin.KernelCount i ≡ true →
-      Called step (Sends Count) s (now_used st) (Err h) st' z → PassOf step set n (symbol_row set.names i) s st (Err (Ending.Halt h)) st' z
-  row_count_out i e f a = pass_is (row_is set i false true e f) (pass_on reached_moded (halted (played_outer a)))
+  pub row_count_out : (i : Sym) {h : Exit} {st st' : State} {s z : S} → is_known set.names Builtin.KernelID i ≡ false → is_known set.names Builtin.KernelCount i ≡ true →
+      Called step (Sends Count) s (now_used st) (Err h) st' z → PassOf step set n (symbol_row set.names i) s st (Err (h)) st' z
+  row_count_out i e f a = pass_is (row_is set i false true e f) (pass_on reached_moded (ended (played_outer a)))
 
   pub row_none : (i : Sym) {st : State} {s : S} → is_known set.names Builtin.KernelID i ≡ false → is_known set.names Builtin.KernelCount i ≡ false →
       PassOf step set n (symbol_row set.names i) s st (Ok (symbol i)) st s

@@ -1,6 +1,6 @@
 pub mod Outward
 pub mod Setup
-pub mod Built
+pub mod Ends
 pub mod Walks
 pub mod Sequence
 pub mod Driven

@@ -1,25 +1,72 @@
--- What the program keeps for calls and replies.
---     call_of, reply_of
---     Guarded               a step of an outside that may be called again afterwards
-use Rattle.semantics.specs.Program as p
-use Rattle.semantics.specs.Play as y
-use Rattle.eval_seq.specs.declared.outward.Want.{Want}
-use Rattle.eval_seq.specs.declared.outward.Answer.{Answer}
-use Rattle.evaluation_steps.specs.Leads.{Step}
+-- The outside of an evaluation.
+--     may_come              which calls come in a mode, where a section is open or not
+--     may_reply             a stop answers a form of the mode table alone
+--     AfterReply            what holds after a value and a stop
+--     opens_after           whether a section is open after a value
+--     Guarded               a step of an outside that keeps what it tells of itself
+--     Faces                 an outside that may be called, and an evaluation of the same mode and with the same section open
+use Rattle.std.specs.Prelude.{◌≡◌, Bool, true, false, not, is_some, List, Option}
+use Rattle.expr_tree.specs.declared.sym.Sym.{Sym}
+use Rattle.name_table.specs.Table.{NameTable}
+use Rattle.semantics.specs.Definitions.{Definitions}
+use Rattle.semantics.specs.Opened.{opens}
+use Rattle.semantics.specs.Program.{Mode, Cell, Item, Service, Request, Access, Count, Print, Outside, Call, Sends, Enter, Leave}
+use Rattle.semantics.specs.Play.{Reply, Replied, Halted, Shut, Lacking}
 
-abbrev pub call_of : Want → p.Call
-call_of (Want.Access e) = p.Sends (p.Access e)
-call_of Want.Count = p.Sends p.Count
-call_of (Want.Print t) = p.Sends (p.Print t)
-call_of (Want.Outside e) = p.Sends (p.Outside e)
-call_of (Want.Enter locks) = p.Enter locks
-call_of Want.Leave = p.Leave
+abbrev pub is_item : Mode → Bool
+is_item Item = true
+is_item Cell = false
+is_item Service = false
 
-abbrev pub reply_of : Answer → y.Reply
-reply_of (Answer.Value v) = y.Replied v
-reply_of (Answer.Stopped cause) = y.Halted cause
-reply_of Answer.Closed = y.Shut
-reply_of Answer.NoMemory = y.Lacking
+abbrev pub may_send : Mode → Request → Bool
+may_send mode (Access e) = is_item mode
+may_send mode Count = true
+may_send mode (Print t) = true
+may_send mode (Outside e) = true
 
-abbrev pub Guarded : {S : Type 0} → Step S → (S → Type 0) → Step S
-Guarded step ready s d c r d' m = step s d c r d' m × ready m
+-- an access comes in an item alone; Enter comes where no section is open, Leave where one is
+abbrev pub may_come : Mode → Bool → Call → Bool
+may_come mode now (Sends request) = may_send mode request
+may_come mode now (Enter locks) = not now
+may_come mode now Leave = now
+
+abbrev pub is_form : Call → Bool
+is_form (Sends (Access e)) = false
+is_form (Sends Count) = false
+is_form (Sends (Print t)) = false
+is_form (Sends (Outside e)) = true
+is_form (Enter locks) = false
+is_form Leave = false
+
+abbrev pub may_reply : Call → Reply → Bool
+may_reply c (Replied v) = true
+may_reply c (Halted cause) = is_form c
+may_reply c Shut = true
+may_reply c Lacking = true
+
+abbrev pub AfterReply : Reply → Type 0 → Type 0
+AfterReply (Replied v) P = P
+AfterReply (Halted c) P = P
+AfterReply Shut P = Unit {0}
+AfterReply Lacking P = Unit {0}
+
+-- whether a section is open after a value
+abbrev pub opens_after : Call → Bool → Bool
+opens_after (Sends request) now = now
+opens_after (Enter locks) now = true
+opens_after Leave now = false
+
+pub record Guarded {S : Type 0} (step : S → Definitions → Call → Reply → Definitions → S → Type 0) (ready : S → Type 0) (names : S → NameTable) (mode : S → Mode) (is_open : S → Bool)
+    (s : S) (d : Definitions) (c : Call) (r : Reply) (d' : Definitions) (m : S) : Type 0 where
+  pub made : step s d c r d' m
+  pub fits : may_reply c r ≡ true
+  pub again : AfterReply r (ready m)
+  pub same_names : names m ≡ names s
+  pub same_mode : mode m ≡ mode s
+  pub follows : is_open m ≡ opens c r (is_open s)
+
+-- of an evaluation in this mode and with this section open
+pub record Faces {S : Type 0} (ready : S → Type 0) (mode : S → Mode) (is_open : S → Bool) (evaluated_in : Mode) (open_section : Option (List Sym)) (s : S) : Type 0 where
+  pub may : ready s
+  pub same_mode : mode s ≡ evaluated_in
+  pub same_open : is_open s ≡ is_some open_section

@@ -18,21 +18,20 @@ use Rattle.semantics.specs.declared.builtin.Builtin.{Builtin}
 use Rattle.semantics.specs.Names.{Names, is_name}
 use Rattle.semantics.specs.Steps.{strip}
 use Rattle.semantics.specs.Definitions.{Definitions, Attributes, Share, definition_of, has}
-use Rattle.semantics.specs.Program.{Prog, Done, Ask, Look, Outer, Access, Check, Seen, Mode, Cell, Item, Service}
+use Rattle.semantics.specs.Program.{Prog, Done, Ask, Look, Outer, Access, Check, Seen}
 use Rattle.semantics.specs.Assemble.{attributes_of, is_asked, ask_rest, ask_items, spliced, flattened, threaded, sorted}
 use Rattle.semantics.specs.Sections.{access_or, unless_identical}
 use Rattle.semantics.specs.Attempt.{try_rules}
 use Rattle.semantics.specs.Scoping.{apply_function}
-use Rattle.semantics.specs.Pass.{later_steps, last_steps, left_standing, marked, up_rules, down_rules, built_in}
+use Rattle.semantics.specs.Pass.{pass, later_steps, last_steps, left_standing, marked, up_rules, down_rules, built_in}
 use Rattle.semantics.specs.Play.{Setting, State, Evaluator, run, seen, too_large}
 use Rattle.builtin_names.specs.Attributes.{attributes_in}
 use Rattle.evaluation_steps.specs.Leads.{Step}
-use Rattle.evaluation_steps.specs.Words.{Settled}
+use Rattle.evaluation_steps.specs.Words.{Played, Settled}
 use Rattle.evaluation_steps.specs.Passed.{Passed}
 use Rattle.evaluation_steps.specs.Moves.{Shows, HasStopped}
 use Rattle.evaluation_steps.specs.declared.Halt.{Halt}
-use Rattle.eval_seq.specs.Walks.{Settles}
-use Rattle.eval_seq.specs.declared.ending.Ending.{Ending}
+use Rattle.evaluation_steps.specs.declared.Exit.{Exit}
 use Rattle.eval_seq.specs.declared.assemble.Assembled.{Assembled}
 use Rattle.eval_seq.specs.declared.values.Values.{Values}
 
@@ -55,7 +54,7 @@ evaluated names h items k = Ask h (λ head. attributes_of head (λ a. ask_items 
 abbrev pub values_in : Tree → List Tree → Values → Tree × Attributes × List Tree
 values_in h items v = (unwrap_or v.head h, attributes_in v.attrs, unwrap_or v.items items)
 
-abbrev pub values_of : Tree → List Tree → Result Values Ending → Result (Tree × Attributes × List Tree) Ending
+abbrev pub values_of : Tree → List Tree → Result Values Exit → Result (Tree × Attributes × List Tree) Exit
 values_of h items (Ok v) = Ok (values_in h items v)
 values_of h items (Err x) = Err x
 
@@ -99,17 +98,10 @@ head_row names _ items e stay = stay
 abbrev pub AnswersBy : Limits → Prog → Result Tree Halt → Type 0
 AnswersBy limits p (Ok v) = Shows limits p (Done v)
 AnswersBy limits p (Err (Halt.Stopped c)) = HasStopped limits p c ⊎ ((v : Tree) × Shows limits p (Done v) × (too_large limits v ≡ Some c))
-AnswersBy limits p (Err Halt.Quit) = ⊥
-AnswersBy limits p (Err Halt.Closed) = ⊥
 AnswersBy limits p (Err Halt.NoMemory) = Unit {0}
 
 pub record Answers (limits : Limits) (p : Prog) (r : Result Tree Halt) : Type 0 where
   pub by : AnswersBy limits p r
-
-abbrev pub is_item : Mode → Bool
-is_item Item = true
-is_item Cell = false
-is_item Service = false
 
 -- an access that is sent, after whose reply `stay` follows where it is identical; else p
 abbrev pub sent_or : Bool → Tree → Prog → Prog → Prog
@@ -138,11 +130,12 @@ pub record IsWithin (head : Tree) (items : List Tree) : Type 0 where
   pub small : size (call head items) ≤ 4000000
   pub shallow : depth (call head items) ≤ 512
 
--- one pass, and whether its value goes on
-abbrev pub TurnedBy : {S : Type 0} → Step S → Setting → ℕ → ℕ → Tree → S → State → Result (Option Tree) Ending → State → S → Type 0
+-- one pass, and whether its value goes on, which it had where the same section was open
+abbrev pub TurnedBy : {S : Type 0} → Step S → Setting → ℕ → ℕ → Tree → S → State → Result (Option Tree) Exit → State → S → Type 0
 TurnedBy step set n m e s st (Ok None) st' z = Settled step set n m e s st (Ok e) st' z
-TurnedBy step set n m e s st (Ok (Some v)) st' z = (0 < m) × Passed step set n m e s st (m - 1) v st' z
-TurnedBy step set n m e s st (Err x) st' z = Settles step set n m e s st (Err x) st' z
+TurnedBy step set n m e s st (Ok (Some v)) st' z =
+    (0 < m) × (Passed step set n m e s st (m - 1) v st' z × ((t : State) × (Played step set n (pass set.names e) s st (Ok v) t z × (t.open_section ≡ st'.open_section))))
+TurnedBy step set n m e s st (Err x) st' z = Settled step set n m e s st (Err x) st' z
 
-pub record Turned {S : Type 0} (step : Step S) (set : Setting) (n m : ℕ) (e : Tree) (s : S) (st : State) (r : Result (Option Tree) Ending) (st' : State) (z : S) : Type 0 where
+pub record Turned {S : Type 0} (step : Step S) (set : Setting) (n m : ℕ) (e : Tree) (s : S) (st : State) (r : Result (Option Tree) Exit) (st' : State) (z : S) : Type 0 where
   pub by : TurnedBy step set n m e s st r st' z

@@ -1,23 +1,23 @@
--- What a whole evaluation says over a list of calls.
+-- What a whole evaluation says.
 --     setting               what does not change during it
---     outcome_of, ended_in  how it ended, and the state that it left
---     Says                  as `Told`; where it came to something that is not built, that the evaluation along the list is there
-use Rattle.std.specs.Prelude.{◌≡◌, List, ◌++◌, None, Result, Ok, Err}
+--     outcome_of            how it ended
+--     kept_use              what it leaves of `used`
+--     Says                  of the evaluation over a list of calls
+--     Came                  of the play along which the steps of the outside lead
+--     AfterOutcome          what holds where the outside may be called again
+--     IsClosed              no section is open, or whether one is where it quit
+use Rattle.std.specs.Prelude.{◌≡◌, Bool, false, is_some, Result, Ok, Err}
 use Rattle.expr_tree.specs.Tree.{Tree}
 use Rattle.expr_tree.specs.declared.limits.Limits.{Limits}
-use Rattle.semantics.specs.Definitions.{Definitions}
-use Rattle.semantics.specs.Play.{Setting, State, Play}
-use Rattle.semantics.specs.Eval.{Event, Evaluation, over}
+use Rattle.semantics.specs.Eval.{Evaluation, Wrong}
+use Rattle.semantics.specs.Play.{Setting, State, Play, Over, Value, Stopped, Thrown, Quit, Closed}
 use Rattle.builtin_names.specs.Named.{names_in}
-use Rattle.evaluation_steps.specs.Explain.{Told}
-use Rattle.evaluation_steps.specs.declared.Halt.{Halt}
+use Rattle.evaluation_steps.specs.Explain.{EndsAs}
+use Rattle.evaluation_steps.specs.Leads.{Step, Leads}
+use Rattle.evaluation_steps.specs.declared.Exit.{Exit}
 use Rattle.machine_steps.specs.Setup.{mode_of, shown_by}
 use Rattle.eval_seq.specs.declared.context.Context.{Context}
-use Rattle.eval_seq.specs.declared.ending.Ending.{Ending}
-use Rattle.eval_seq.specs.declared.ending.Missing.{Missing}
 use Rattle.eval_seq.specs.declared.call.Outcome.{Outcome}
-use Rattle.eval_seq.specs.declared.call.Ended.{Ended}
-use Rattle.eval_seq.specs.Walks.{Stands}
 
 abbrev pub setting : Context → Limits → Setting
 setting c limits =
@@ -29,25 +29,64 @@ setting c limits =
       limits = limits;
     }
 
-abbrev pub outcome_of : Result Tree Ending → Outcome
+abbrev pub IsThrowing : Result Tree Exit → Type 0
+IsThrowing (Ok v) = ⊥
+IsThrowing (Err (Exit.Stopped c)) = ⊥
+IsThrowing (Err (Exit.Throwing v)) = Unit {0}
+IsThrowing (Err (Exit.Thrown v)) = ⊥
+IsThrowing (Err Exit.Quit) = ⊥
+IsThrowing (Err Exit.Closed) = ⊥
+IsThrowing (Err Exit.NoMemory) = ⊥
+
+abbrev pub outcome_of : Result Tree Exit → Outcome
 outcome_of (Ok v) = Outcome.Value v
-outcome_of (Err (Ending.Halt (Halt.Stopped c))) = Outcome.Stopped c
-outcome_of (Err (Ending.Halt Halt.Quit)) = Outcome.Quit
-outcome_of (Err (Ending.Halt Halt.Closed)) = Outcome.Closed
-outcome_of (Err (Ending.Halt Halt.NoMemory)) = Outcome.NoMemory
-outcome_of (Err (Ending.Unbuilt b)) = Outcome.Unbuilt b
+outcome_of (Err (Exit.Stopped c)) = Outcome.Stopped c
+outcome_of (Err (Exit.Throwing v)) = Outcome.NoMemory
+outcome_of (Err (Exit.Thrown v)) = Outcome.Thrown v
+outcome_of (Err Exit.Quit) = Outcome.Quit
+outcome_of (Err Exit.Closed) = Outcome.Closed
+outcome_of (Err Exit.NoMemory) = Outcome.NoMemory
 
-abbrev pub ended_in : Definitions → Ended → State
-ended_in d ended = record { definitions = d; steps = ended.steps; used = ended.used; open_section = None }
+-- with want of memory nothing is told of mode and kernel
+abbrev pub kept_use : Outcome → State → State
+kept_use (Outcome.Value e) st = st
+kept_use (Outcome.Stopped c) st = st
+kept_use (Outcome.Thrown e) st = st
+kept_use Outcome.Quit st = st
+kept_use Outcome.Closed st = st
+kept_use Outcome.NoMemory st = record st { used = false }
 
--- along the list it comes to b, however the list goes on
-pub record IsAt (set : Setting) (evaluation : List Event → Evaluation) (events : List Event) (b : Missing) : Type 0 where
-  pub by : (u : Play) × ((more : List Event) → evaluation (events ++ more) ≡ over u more) × Stands set b u
+-- with want of memory, that the list is no wrong one, and that `used` is false
+abbrev pub Says : Evaluation → Outcome → State → Type 0
+Says v (Outcome.Value e) st = EndsAs v (Value e) st
+Says v (Outcome.Stopped c) st = EndsAs v (Stopped c) st
+Says v (Outcome.Thrown e) st = EndsAs v (Thrown e) st
+Says v Outcome.Quit st = EndsAs v Quit st
+Says v Outcome.Closed st = EndsAs v Closed st
+Says v Outcome.NoMemory st = (v.outcome ≡ Wrong → ⊥) × (st.used ≡ false)
 
-abbrev pub Says : Setting → (List Event → Evaluation) → List Event → Outcome → State → Type 0
-Says set f events (Outcome.Value v) st = Told (f events) (Ok v) st
-Says set f events (Outcome.Stopped c) st = Told (f events) (Err (Halt.Stopped c)) st
-Says set f events Outcome.Quit st = Told (f events) (Err Halt.Quit) st
-Says set f events Outcome.Closed st = Told (f events) (Err Halt.Closed) st
-Says set f events Outcome.NoMemory st = Told (f events) (Err Halt.NoMemory) st
-Says set f events (Outcome.Unbuilt b) st = IsAt set f events b
+-- to its end in this state; with want of memory to a point of the play
+abbrev pub Came : {S : Type 0} → Step S → S → Play → Outcome → State → S → Type 0
+Came step s t (Outcome.Value e) st z = Leads step s t (Over (Value e) st) z
+Came step s t (Outcome.Stopped c) st z = Leads step s t (Over (Stopped c) st) z
+Came step s t (Outcome.Thrown e) st z = Leads step s t (Over (Thrown e) st) z
+Came step s t Outcome.Quit st z = Leads step s t (Over Quit st) z
+Came step s t Outcome.Closed st z = Leads step s t (Over Closed st) z
+Came step s t Outcome.NoMemory st z = (u : Play) × Leads step s t u z
+
+abbrev pub AfterOutcome : Outcome → Type 0 → Type 0
+AfterOutcome (Outcome.Value e) P = P
+AfterOutcome (Outcome.Stopped c) P = P
+AfterOutcome (Outcome.Thrown e) P = P
+AfterOutcome Outcome.Quit P = P
+AfterOutcome Outcome.Closed P = Unit {0}
+AfterOutcome Outcome.NoMemory P = Unit {0}
+
+-- of the state afterwards, and of what the outside tells
+abbrev pub IsClosed : Outcome → State → Bool → Type 0
+IsClosed (Outcome.Value e) st now = (is_some st.open_section ≡ false) × (now ≡ false)
+IsClosed (Outcome.Stopped c) st now = (is_some st.open_section ≡ false) × (now ≡ false)
+IsClosed (Outcome.Thrown e) st now = (is_some st.open_section ≡ false) × (now ≡ false)
+IsClosed Outcome.Quit st now = now ≡ is_some st.open_section
+IsClosed Outcome.Closed st now = Unit {0}
+IsClosed Outcome.NoMemory st now = Unit {0}

@@ -7,16 +7,15 @@ ghost use Rattle.semantics.specs.Program.{Done};
 ghost use Rattle.semantics.specs.Assemble.{check_all};
 ghost use Rattle.semantics.specs.Pass.{left_standing};
 ghost use Rattle.builtin_names.specs.Attributes.{attributes_in};
-ghost use Rattle.builtin_names.specs.Named.{HasBuiltins, names_in};
+ghost use Rattle.builtin_names.specs.Named.{names_in};
 ghost use Rattle.evaluation_steps.specs.Stopping.{AreBounded};
 ghost use Rattle.eval_seq.specs.Sequence.{stripped, AssembledBy, Answers};
 
 use crate::effects::check;
 use attr_steps::{flattened, has_wrapper, sorted, strip, threaded};
-use builtin_names::make;
+use builtin_names::{Vocabulary, make};
 use evaluation_steps::{Halt, stop_for};
 use expr_tree::{Attrs, Built, Expr, Exprs, Limits, copy_items};
-use name_table::Names;
 use semantics::Builtin;
 use std::alloc::{AllocError, Global};
 
@@ -53,12 +52,11 @@ fn call(alloc: Global, head: Expr, items: Exprs) -> Result<Expr, AllocError>
 #[tactic(auto, using(builtin_names::proofs::Flags::flag_steps))]
 fn standing(
     alloc: Global,
-    names: &Names,
+    names: &Vocabulary,
     head: &Expr,
     attrs: &Attrs,
     items: &Exprs,
 ) -> Result<Option<Expr>, AllocError>
-    requires names { HasBuiltins names.now }
     requires small { size (call head.now items.now) ≤ 4000000 }
     requires shallow { depth (call head.now items.now) ≤ 512 }
     ensures { IfOk result (λ o. (whole : Tree) → unwrap_or o whole ≡ left_standing (names_in names.now) (attributes_in attrs.now) head.now items.now whole) }
@@ -75,8 +73,12 @@ fn standing(
 }
 
 #[tactic(auto, using(builtin_names::proofs::Flags::flag_steps, crate::proofs::Smaller::smaller_steps))]
-fn stripped(alloc: Global, names: &Names, attrs: &Attrs, items: Exprs) -> Result<Exprs, AllocError>
-    requires names { HasBuiltins names.now }
+fn stripped(
+    alloc: Global,
+    names: &Vocabulary,
+    attrs: &Attrs,
+    items: Exprs,
+) -> Result<Exprs, AllocError>
     ensures value { IfOk result (λ r. r ≡ stripped (names_in names.now) (attributes_in attrs.now) items) }
     ensures no_larger { IfOk result (λ r. sizes (trees r) ≤ sizes (trees items)) }
     ensures no_deeper { IfOk result (λ r. depths (trees r) ≤ depths (trees items)) }
@@ -101,12 +103,11 @@ fn sorted_call(alloc: Global, head: Expr, attrs: &Attrs, items: Exprs) -> Result
 /// The steps after splicing that ask nothing.
 pub(crate) fn assemble(
     alloc: Global,
-    names: &Names,
+    names: &Vocabulary,
     head: Expr,
     attrs: &Attrs,
     items: Exprs,
 ) -> Result<Assembled, AllocError>
-    requires names { HasBuiltins names.now }
     requires small { size (call head items) ≤ 4000000 }
     requires shallow { depth (call head items) ≤ 512 }
     ensures { IfOk result (λ x. AssembledBy (names_in names.now) head (attributes_in attrs.now) items x) }
@@ -124,11 +125,10 @@ pub(crate) fn assemble(
 #[tactic(auto, using(crate::proofs::Answered::listed_steps))]
 pub(crate) fn listed(
     alloc: Global,
-    names: &Names,
+    names: &Vocabulary,
     limits: &Limits,
     each: Exprs,
 ) -> Result<Expr, Halt>
-    requires names { HasBuiltins names.now }
     requires bounded { AreBounded limits.now }
     ensures { Answers limits.now (check_all each (Done (make (names_in names.now) Builtin.List each))) result }
 {

@@ -1,46 +1,49 @@
 //! What the evaluator does besides computing.
-ghost use Rattle.std.specs.Prelude.{◌≡◌};
+ghost use Rattle.std.specs.Prelude.{◌≡◌, true, IfOk};
 ghost use Rattle.expr_tree.specs.Tree.{call};
 ghost use Rattle.evaluation_steps.specs.Stopping.{AreBounded};
 ghost use Rattle.evaluation_steps.specs.Words.{Called, Counted, Fits};
-ghost use Rattle.eval_seq.specs.Outward.{call_of, Guarded};
-ghost use Rattle.eval_seq.specs.Setup.{state_of};
+ghost use Rattle.machine_steps.specs.Outward.{call_of};
+ghost use Rattle.machine_steps.specs.Setup.{state_of};
+ghost use Rattle.eval_seq.specs.Outward.{may_come, opens_after, Guarded};
 
-use crate::context::Going;
-use crate::outward::{Answer, Upcall, Want};
-use evaluation_steps::{Halt, fits};
+use crate::outward::Upcall;
+use evaluation_steps::{Exit, Halt, fits};
 use expr_tree::{Expr, Limits, Stop};
-use kernel_defs::Defs;
+use machine_steps::{Answer, KernelState, Want};
 
 /// Calls the outside.
 pub(crate) fn outward<U: Upcall>(
-    defs: &mut Defs,
+    state: &mut KernelState,
     up: &mut U,
-    going: &Going,
     want: Want,
-) -> Result<Expr, Halt>
-    requires { U.ready up.old }
-    ensures { Called (Guarded U.step U.ready) (call_of want) up.old (state_of defs.old going.now) result (state_of defs.new going.now) up.new }
+) -> Result<Expr, Exit>
+    requires ready { U.ready up.old }
+    requires comes { may_come (U.mode up.old) (U.is_open up.old) (call_of want) ≡ true }
+    ensures called { Called (Guarded U.step U.ready U.names U.mode U.is_open) (call_of want) up.old (state_of state.old) result (state_of state.new) up.new }
+    ensures rest { state.new ≡ record state.old { defs = state.new.defs } }
+    ensures ready { IfOk result (λ _. U.ready up.new) }
+    ensures mode { U.mode up.new ≡ U.mode up.old }
+    ensures is_open { IfOk result (λ _. U.is_open up.new ≡ opens_after (call_of want) (U.is_open up.old)) }
 {
-    let _steps = going.steps;
-    match up.call(defs, want) {
+    match up.call(&mut state.defs, want) {
         Answer::Value(v) => Ok(v),
-        Answer::Stopped(c) => Err(Halt::Stopped(c)),
-        Answer::Closed => Err(Halt::Closed),
-        Answer::NoMemory => Err(Halt::NoMemory),
+        Answer::Stopped(c) => Err(Exit::Stopped(c)),
+        Answer::Closed => Err(Exit::Closed),
+        Answer::NoMemory => Err(Exit::NoMemory),
     }
 }
 
 /// Counts one step, if this is a turn.
-pub(crate) fn count(limits: &Limits, turn: bool, going: &mut Going) -> Result<(), Halt>
-    ensures steps { Counted turn limits.now.steps going.old.steps result going.new.steps }
-    ensures rest { going.new ≡ record going.old { steps = going.new.steps } }
+pub(crate) fn count(limits: &Limits, turn: bool, state: &mut KernelState) -> Result<(), Halt>
+    ensures steps { Counted turn limits.now.steps state.old.steps result state.new.steps }
+    ensures rest { state.new ≡ record state.old { steps = state.new.steps } }
 {
     if turn {
-        if limits.steps <= going.steps {
+        if limits.steps <= state.steps {
             return Err(Halt::Stopped(Stop::Steps));
         }
-        going.steps += 1;
+        state.steps += 1;
     }
     Ok(())
 }

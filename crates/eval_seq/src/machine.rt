@@ -1,6 +1,6 @@
 //! Machines that the evaluator performs.
 use expr_tree::Expr;
-use machine_rows::Frame;
+use machine_rows::Machine;
 
 /// How a step begins.
 #[derive(Drop)]
@@ -8,7 +8,7 @@ pub(crate) enum Start {
     /// Its result, or none.
     Given(Option<Expr>),
     /// A machine that gives its result, or none.
-    Machine(Frame),
+    Machine(Machine),
 }
 
 /// What came of a move of a machine.

@@ -5,19 +5,17 @@ ghost use Rattle.semantics.specs.Assemble as a;
 ghost use Rattle.semantics.specs.Pass.{left_standing};
 ghost use Rattle.semantics.specs.Steps.{is_call_of, flatten, flatten_item, ordered, splice};
 ghost use Rattle.builtin_names.specs.Attributes.{attributes_in};
-ghost use Rattle.builtin_names.specs.Named.{HasBuiltins, names_in};
+ghost use Rattle.builtin_names.specs.Named.{names_in};
 ghost use Rattle.eval_seq.specs.Sequence.{stripped, values_in, IsSettled};
 
 use crate::values::Values;
 use attr_steps::has_wrapper;
-use builtin_names::is_call;
+use builtin_names::{Vocabulary, is_call};
 use canon_order::compare;
 use expr_tree::{Attrs, Expr, Node, Sym};
-use name_table::Names;
 use semantics::Builtin;
 
-fn has_sequence(names: &Names, items: &[Expr]) -> bool
-    requires names { HasBuiltins names.now }
+fn has_sequence(names: &Vocabulary, items: &[Expr]) -> bool
     ensures { result ≡ false → splice (names_in names.now) items.now ≡ items.now }
 {
     for item in items {
@@ -30,8 +28,7 @@ fn has_sequence(names: &Names, items: &[Expr]) -> bool
 
 /// Whether splicing leaves the elements as they are.
 #[tactic(auto, using(builtin_names::proofs::Flags::flag_steps))]
-fn is_spliced(names: &Names, attrs: &Attrs, items: &[Expr]) -> bool
-    requires names { HasBuiltins names.now }
+fn is_spliced(names: &Vocabulary, attrs: &Attrs, items: &[Expr]) -> bool
     ensures { result ≡ true → a.spliced (names_in names.now) (attributes_in attrs.now) items.now ≡ items.now }
 {
     if attrs.sequence_hold || attrs.hold_all_complete {
@@ -42,8 +39,7 @@ fn is_spliced(names: &Names, attrs: &Attrs, items: &[Expr]) -> bool
 
 /// Whether stripping leaves the elements as they are, so that the call stands where nothing gives a result.
 #[tactic(auto, using(builtin_names::proofs::Flags::flag_steps, attr_steps::proofs::Wrappers::none_stripped))]
-fn is_stripped(names: &Names, attrs: &Attrs, items: &[Expr]) -> bool
-    requires names { HasBuiltins names.now }
+fn is_stripped(names: &Vocabulary, attrs: &Attrs, items: &[Expr]) -> bool
     ensures value { result ≡ true → stripped (names_in names.now) (attributes_in attrs.now) items.now ≡ items.now }
     ensures stands { (head whole : Tree) → result ≡ true → left_standing (names_in names.now) (attributes_in attrs.now) head items.now whole ≡ whole }
 {
@@ -110,8 +106,7 @@ fn is_sorted(attrs: &Attrs, items: &[Expr]) -> bool
 }
 
 /// Whether head and elements are as they were, and no step that asks nothing changes them, threading aside.
-pub(crate) fn is_settled(names: &Names, values: &Values, head: &Expr, items: &[Expr]) -> bool
-    requires names { HasBuiltins names.now }
+pub(crate) fn is_settled(names: &Vocabulary, values: &Values, head: &Expr, items: &[Expr]) -> bool
     ensures same { result ≡ true → values_in head.now items.now values.now ≡ (head.now, attributes_in values.now.attrs, items.now) }
     ensures settled { result ≡ true → IsSettled (names_in names.now) head.now (attributes_in values.now.attrs) items.now }
 {

@@ -1,34 +1,30 @@
 //! Symbols: their attributes and values, and whether a use of one is an access of a shared symbol.
-ghost use Rattle.std.specs.Prelude.{◌≡◌, ℕ};
+ghost use Rattle.std.specs.Prelude.{◌≡◌, ℕ, true, IfOk};
 ghost use Rattle.expr_tree.specs.Tree.{symbol};
 ghost use Rattle.semantics.specs.Program as p;
 ghost use Rattle.semantics.specs.Program.{Outer, Access};
 ghost use Rattle.semantics.specs.Pass.{number_in, symbol_pass, symbol_row};
 ghost use Rattle.semantics.specs.Sections.{unless_access, unless_identical};
 ghost use Rattle.builtin_names.specs.Attributes.{attributes_in};
-ghost use Rattle.builtin_names.specs.Named.{HasBuiltins, names_in};
+ghost use Rattle.builtin_names.specs.Named.{names_in};
 ghost use Rattle.shared_calls.specs.View.{share_of};
-ghost use Rattle.eval_seq.specs.Outward.{Guarded};
-ghost use Rattle.machine_steps.specs.Setup.{mode_of, setting_of};
-ghost use Rattle.eval_seq.specs.Setup.{state_of};
+ghost use Rattle.eval_seq.specs.Outward.{is_item, Faces, Guarded};
+ghost use Rattle.machine_steps.specs.Setup.{mode_of, setting_of, state_of};
 ghost use Rattle.eval_seq.specs.Walks.{or_itself, PassOf, Stepped};
-ghost use Rattle.eval_seq.specs.Sequence.{attributes_seen, is_item, Accesses, Marks, Uses};
+ghost use Rattle.eval_seq.specs.Sequence.{attributes_seen, Accesses, Marks, Uses};
 
-use crate::context::Going;
 use crate::effects::outward;
-use crate::ending::Ending;
-use crate::outward::{Upcall, Want};
-use builtin_names::is_known;
+use crate::outward::Upcall;
+use builtin_names::{Vocabulary, is_known};
+use evaluation_steps::Exit;
 use expr_tree::{Attrs, Expr, Node, Sym};
 use kernel_defs::Defs;
-use machine_steps::{Mode, Scene};
-use name_table::Names;
+use machine_steps::{KernelState, Mode, Request, Scene, Want};
 use semantics::Builtin;
 use shared_calls::{ShareKind, accesses_are_sent, changed_symbol};
 
 /// The attributes of a head.
-pub(crate) fn attrs_under(names: &Names, defs: &Defs, head: &Expr) -> Attrs
-    requires names { HasBuiltins names.now }
+pub(crate) fn attrs_under(names: &Vocabulary, defs: &Defs, head: &Expr) -> Attrs
     ensures { attributes_in result ≡ attributes_seen (names_in names.now) defs.now head.now }
 {
     match head.node() {
@@ -49,47 +45,41 @@ fn is_item(mode: Mode) -> bool
 
 /// Looks at a symbol, and says whether this use of it is sent outward.
 #[tactic(auto, using(crate::proofs::Marking::marks_steps))]
-pub(crate) fn marks(
-    scene: &Scene,
-    defs: &Defs,
-    going: &mut Going,
-    kind: ShareKind,
-    symbol: Sym,
-) -> bool
-    ensures { Marks (setting_of scene.now) (share_of kind) symbol (state_of defs.now going.old) result (state_of defs.now going.new) }
+pub(crate) fn marks(scene: &Scene, state: &mut KernelState, kind: ShareKind, symbol: Sym) -> bool
+    ensures kept { state.new ≡ record state.old { used = state.new.used } }
+    ensures sent { result ≡ true → is_item (mode_of scene.now.mode) ≡ true }
+    ensures marks { Marks (setting_of scene.now) (share_of kind) symbol (state_of state.old) result (state_of state.new) }
 {
-    let Some(found) = defs.shared().kind_of(symbol) else {
+    let Some(found) = state.defs.shared().kind_of(symbol) else {
         return false;
     };
-    going.used = true;
+    state.used = true;
     found.is(kind) && is_item(scene.mode)
 }
 
 /// Whether a row that changes a shared symbol is sent outward.
 #[tactic(auto, using(crate::proofs::Marking::uses_steps))]
-pub(crate) fn changes(
-    scene: &Scene,
-    defs: &Defs,
-    going: &mut Going,
-    row: Sym,
-    items: &[Expr],
-) -> bool
-    ensures { Uses (setting_of scene.now) (λ e stay p. unless_access (names_in scene.now.names.now) (symbol row) items.now e stay p) (state_of defs.now going.old) result (state_of defs.now going.new) }
+pub(crate) fn changes(scene: &Scene, state: &mut KernelState, row: Sym, items: &[Expr]) -> bool
+    ensures kept { state.new ≡ record state.old { used = state.new.used } }
+    ensures sent { result ≡ true → is_item (mode_of scene.now.mode) ≡ true }
+    ensures uses { Uses (setting_of scene.now) (λ e stay p. unless_access (names_in scene.now.names.now) (symbol row) items.now e stay p) (state_of state.old) result (state_of state.new) }
 {
     accesses_are_sent();
-    if changed_symbol(defs.shared(), scene.names, row, items).is_none() {
+    if changed_symbol(state.defs.shared(), scene.names, row, items).is_none() {
         return false;
     }
-    going.used = true;
+    state.used = true;
     is_item(scene.mode)
 }
 
 /// Whether a call of a head is sent outward, as that of a shared function.
-pub(crate) fn accesses(scene: &Scene, defs: &Defs, going: &mut Going, head: &Expr) -> bool
-    ensures { Accesses (setting_of scene.now) head.now (state_of defs.now going.old) result (state_of defs.now going.new) }
+pub(crate) fn accesses(scene: &Scene, state: &mut KernelState, head: &Expr) -> bool
+    ensures kept { state.new ≡ record state.old { used = state.new.used } }
+    ensures sent { result ≡ true → is_item (mode_of scene.now.mode) ≡ true }
+    ensures accesses { Accesses (setting_of scene.now) head.now (state_of state.old) result (state_of state.new) }
 {
     match head.node() {
-        Node::Symbol(symbol) => marks(scene, defs, going, ShareKind::Function, *symbol),
+        Node::Symbol(symbol) => marks(scene, state, ShareKind::Function, *symbol),
         Node::Normal(_, _) => false,
         Node::Int(_) => false,
         Node::Str(_) => false,
@@ -99,23 +89,24 @@ pub(crate) fn accesses(scene: &Scene, defs: &Defs, going: &mut Going, head: &Exp
 /// Sends an access. `None` is a reply identical to it.
 pub(crate) fn send_access<U: Upcall>(
     scene: &Scene,
-    defs: &mut Defs,
+    state: &mut KernelState,
     up: &mut U,
-    going: &Going,
     access: &Expr,
-) -> Result<Option<Expr>, Ending>
-    requires { U.ready up.old }
-    ensures { (n : ℕ) → Stepped (Guarded U.step U.ready) (setting_of scene.now) n (λ rest. Outer (Access access.now) (unless_identical access.now rest)) up.old (state_of defs.old going.now) result (state_of defs.new going.now) up.new }
+) -> Result<Option<Expr>, Exit>
+    requires faces { Faces U.ready U.mode U.is_open (mode_of scene.now.mode) state.old.open_section up.old }
+    requires item { is_item (mode_of scene.now.mode) ≡ true }
+    ensures stepped { (n : ℕ) → Stepped (Guarded U.step U.ready U.names U.mode U.is_open) (setting_of scene.now) n (λ rest. Outer (Access access.now) (unless_identical access.now rest)) up.old (state_of state.old) result (state_of state.new) up.new }
+    ensures faces { IfOk result (λ _. Faces U.ready U.mode U.is_open (mode_of scene.now.mode) state.new.open_section up.new) }
 {
     let sent = access.copy(scene.alloc)?;
-    match outward(defs, up, going, Want::Access(sent)) {
+    match outward(state, up, Want::Access(sent)) {
         Ok(reply) => {
             if reply.equals(access) {
                 return Ok(None);
             }
             Ok(Some(reply))
         }
-        Err(halt) => Err(Ending::Halt(halt)),
+        Err(exit) => Err(exit),
     }
 }
 
@@ -133,23 +124,22 @@ fn kernel_number(scene: &Scene) -> u32
 /// The row of a symbol alone.
 fn symbol_row<U: Upcall>(
     scene: &Scene,
-    defs: &mut Defs,
+    state: &mut KernelState,
     up: &mut U,
-    going: &mut Going,
     symbol: Sym,
-) -> Result<Option<Expr>, Ending>
-    requires { U.ready up.old }
-    ensures { (n : ℕ) → PassOf (Guarded U.step U.ready) (setting_of scene.now) n (symbol_row (names_in scene.now.names.now) symbol) up.old (state_of defs.old going.old) (or_itself (Rattle.expr_tree.specs.Tree.symbol symbol) result) (state_of defs.new going.new) up.new }
+) -> Result<Option<Expr>, Exit>
+    requires { Faces U.ready U.mode U.is_open (mode_of scene.now.mode) state.old.open_section up.old }
+    ensures { (n : ℕ) → PassOf (Guarded U.step U.ready U.names U.mode U.is_open) (setting_of scene.now) n (symbol_row (names_in scene.now.names.now) symbol) up.old (state_of state.old) (or_itself (Rattle.expr_tree.specs.Tree.symbol symbol) result) (state_of state.new) up.new }
 {
     if is_known(scene.names, Builtin::KernelID, symbol) {
-        going.used = true;
+        state.used = true;
         return Ok(Some(Expr::int(kernel_number(scene) as i128)));
     }
     if is_known(scene.names, Builtin::KernelCount, symbol) {
-        going.used = true;
-        return match outward(defs, up, going, Want::Count) {
+        state.used = true;
+        return match outward(state, up, Want::Sends(Request::Count)) {
             Ok(v) => Ok(Some(v)),
-            Err(halt) => Err(Ending::Halt(halt)),
+            Err(exit) => Err(exit),
         };
     }
     Ok(None)
@@ -158,20 +148,19 @@ fn symbol_row<U: Upcall>(
 /// One pass over a symbol.
 pub(crate) fn own<U: Upcall>(
     scene: &Scene,
-    defs: &mut Defs,
+    state: &mut KernelState,
     up: &mut U,
-    going: &mut Going,
     symbol: Sym,
-) -> Result<Option<Expr>, Ending>
-    requires { U.ready up.old }
-    ensures { (n : ℕ) → PassOf (Guarded U.step U.ready) (setting_of scene.now) n (symbol_pass (names_in scene.now.names.now) symbol) up.old (state_of defs.old going.old) (or_itself (Rattle.expr_tree.specs.Tree.symbol symbol) result) (state_of defs.new going.new) up.new }
+) -> Result<Option<Expr>, Exit>
+    requires { Faces U.ready U.mode U.is_open (mode_of scene.now.mode) state.old.open_section up.old }
+    ensures { (n : ℕ) → PassOf (Guarded U.step U.ready U.names U.mode U.is_open) (setting_of scene.now) n (symbol_pass (names_in scene.now.names.now) symbol) up.old (state_of state.old) (or_itself (Rattle.expr_tree.specs.Tree.symbol symbol) result) (state_of state.new) up.new }
 {
-    if marks(scene, defs, going, ShareKind::Variable, symbol) {
+    if marks(scene, state, ShareKind::Variable, symbol) {
         let access = Expr::symbol(symbol);
-        return send_access(scene, defs, up, going, &access);
+        return send_access(scene, state, up, &access);
     }
-    if let Some(value) = defs.own_of(symbol) {
+    if let Some(value) = state.defs.own_of(symbol) {
         return Ok(Some(value.copy(scene.alloc)?));
     }
-    symbol_row(scene, defs, up, going, symbol)
+    symbol_row(scene, state, up, symbol)
 }

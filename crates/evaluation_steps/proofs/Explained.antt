@@ -2,12 +2,12 @@
 use Rattle.std.proofs.Common.{◌≡◌, ◌∙◌, List, [], ◌∷◌, ◌++◌, append_assoc, append-nil, Ok, Err, refl, sym, ap, subst}
 use Rattle.expr_tree.specs.Tree.{Tree}
 use Rattle.semantics.specs.Definitions.{Definitions}
-use Rattle.semantics.specs.Play.{Setting, State, End, Value, Stopped, Quit, Closed, Play, Over, Calls, whole}
+use Rattle.semantics.specs.Play.{Setting, State, End, Value, Stopped, Throwing, Thrown, Quit, Closed, Play, Over, Calls, whole}
 use Rattle.semantics.specs.Eval.{Event, Evaluation, Wrong, over, if_matched, eval}
 use Rattle.semantics.proofs.Same.{same_call-self}
 use Rattle.evaluation_steps.specs.Leads.{Step, Leads, here, called}
 use Rattle.evaluation_steps.specs.Explain.{Explain, EndsAs, Explained}
-use Rattle.evaluation_steps.specs.declared.Halt.{Halt}
+use Rattle.evaluation_steps.specs.declared.Exit.{Exit}
 
 -- the list of the events that lead from t to u; the evaluation over it is at u
 pub elements : {S : Type 0} {step : Step S} {s z : S} {t u : Play} (evaluation : List Event → Evaluation) (before : List Event) →
@@ -46,8 +46,10 @@ module _ {S : Type 0} {step : Step S} (set : Setting) (d : Definitions) (e : Tre
 
 pub explained : {S : Type 0} (step : Step S) → Explained step
 explained step set d e s z (Ok v) st a = let x = listed_to set d e (Over (Value v) st) a.went.by in (x.0, x.1, ends_as x.2)
-explained step set d e s z (Err (Halt.Stopped c)) st a = let x = listed_to set d e (Over (Stopped c) st) a.went.by in (x.0, x.1, ends_as x.2)
-explained step set d e s z (Err Halt.Quit) st a = let x = listed_to set d e (Over Quit st) a.went.by in (x.0, x.1, ends_as x.2)
-explained step set d e s z (Err Halt.Closed) st a = let x = listed_to set d e (Over Closed st) a.went.by in (x.0, x.1, ends_as x.2)
-explained step set d e s z (Err Halt.NoMemory) st a =
+explained step set d e s z (Err (Exit.Stopped c)) st a = let x = listed_to set d e (Over (Stopped c) st) a.went.by in (x.0, x.1, ends_as x.2)
+explained step set d e s z (Err (Exit.Throwing v)) st a = let x = listed_to set d e (Over (Throwing v) st) a.went.by in (x.0, x.1, ends_as x.2)
+explained step set d e s z (Err (Exit.Thrown v)) st a = let x = listed_to set d e (Over (Thrown v) st) a.went.by in (x.0, x.1, ends_as x.2)
+explained step set d e s z (Err Exit.Quit) st a = let x = listed_to set d e (Over Quit st) a.went.by in (x.0, x.1, ends_as x.2)
+explained step set d e s z (Err Exit.Closed) st a = let x = listed_to set d e (Over Closed st) a.went.by in (x.0, x.1, ends_as x.2)
+explained step set d e s z (Err Exit.NoMemory) st a =
     let x = listed_to set d e a.went.by.0 a.went.by.1 in (x.0, x.1, λ q. not_wrong a.went.by.0 (sym (ap (λ v. v.outcome) x.2) ∙ q))

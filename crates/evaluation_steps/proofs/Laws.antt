@@ -11,16 +11,36 @@ use Rattle.expr_tree.specs.declared.sym.Sym.{Sym}
 use Rattle.expr_tree.specs.Tree.{Tree}
 use Rattle.expr_tree.specs.Order.{same}
 use Rattle.semantics.specs.Definitions.{Definition, Definitions}
-use Rattle.semantics.specs.Program.{Prog, Done, Stops, Quits, Ask, Within, Section, Open, Look, Put, Fresh, Turn, Check, Outer, Moded, Call, Enter, Leave, Local, Seen, Mode, Request, Sends}
+use Rattle.semantics.specs.Program.{Prog, Done, Stops, Quits, Throws, Ask, Catches, Within, Section, Open, Look, Put, Fresh, Turn, Check, Outer, Moded, Call, Enter, Leave, Local, Seen, Mode, Request, Sends}
 use Rattle.semantics.specs.declared.builtin.Builtin.{Builtin}
 use Rattle.semantics.specs.Names.{name}
 use Rattle.expr_tree.specs.declared.limits.Stop.{Stop}
 use Rattle.semantics.specs.Pass.{pass}
-use Rattle.semantics.specs.Play.{Setting, State, End, Value, Stopped, Replied, Halted, Shut, Lacking, Play, Over, ending, on_value, after, with_locals, without_locals, leaving_locals, with_definitions, all_among, by_locks, sectioned, calling, opened, leaving, seen, written, now_used, run, passes, eval_at, too_large, unless_stopped, last_number, judged, passed}
+use Rattle.semantics.specs.Play.{Setting, State, End, Value, Stopped, Throwing, Thrown, Replied, Halted, Shut, Lacking, Play, Over, ending, on_value, after, catching, with_locals, without_locals, leaving_locals, with_definitions, all_among, by_locks, sectioned, calling, opened, leaving, seen, written, now_used, run, passes, eval_at, too_large, unless_stopped, last_number, changed, judged, passed}
+use Rattle.evaluation_steps.specs.declared.Exit.{Exit}
 use Rattle.evaluation_steps.specs.declared.Halt.{Halt}
-use Rattle.evaluation_steps.specs.Leads.{Step, Leads, here, called, Went}
+use Rattle.evaluation_steps.specs.Leads.{Step, Leads, here, called, exit_of, Went}
 use Rattle.evaluation_steps.specs.Words.{Evaluated, Settled, Played, Reached, Ran, Led, Called, Gives, Counted, Fits, FitsBy, Numbered}
 use Rattle.evaluation_steps.specs.Passed.{Passed}
+
+-- a throw is caught
+abbrev pub caught : Result Tree Exit → Result Tree Exit
+caught (Ok v) = Ok v
+caught (Err (Exit.Stopped c)) = Err (Exit.Stopped c)
+caught (Err (Exit.Throwing v)) = Err (Exit.Throwing v)
+caught (Err (Exit.Thrown v)) = Ok v
+caught (Err Exit.Quit) = Err Exit.Quit
+caught (Err Exit.Closed) = Err Exit.Closed
+caught (Err Exit.NoMemory) = Err Exit.NoMemory
+
+abbrev pub throws_nothing : {A : Type 0} → Result A Exit → Type 0
+throws_nothing (Ok v) = Unit {0}
+throws_nothing (Err (Exit.Stopped c)) = Unit {0}
+throws_nothing (Err (Exit.Throwing v)) = ⊥
+throws_nothing (Err (Exit.Thrown v)) = Unit {0}
+throws_nothing (Err Exit.Quit) = Unit {0}
+throws_nothing (Err Exit.Closed) = Unit {0}
+throws_nothing (Err Exit.NoMemory) = Unit {0}
 
 module _ {S : Type 0} {step : Step S} where
   pub leads_on : {s m z : S} {t u v : Play} → Leads step s t u m → Leads step m u v z → Leads step s t v z
@@ -31,63 +51,86 @@ module _ {S : Type 0} {step : Step S} where
   ending_leads k here = here
   ending_leads k (called c l) = called c (ending_leads k l)
 
-  pub went_on : {A : Type 0} {s m z : S} {t u : Play} {r : Result A Halt} {k : A → Play} {st : State} → Leads step s t u m → Went step m u r k st z → Went step s t r k st z
+  pub went_on : {A : Type 0} {s m z : S} {t u : Play} {r : Result A Exit} {k : A → Play} {st : State} → Leads step s t u m → Went step m u r k st z → Went step s t r k st z
   went_on {r = Ok v} l w = record { by = leads_on l w.by }
-  went_on {r = Err (Halt.Stopped c)} l w = record { by = leads_on l w.by }
-  went_on {r = Err Halt.Quit} l w = record { by = leads_on l w.by }
-  went_on {r = Err Halt.Closed} l w = record { by = leads_on l w.by }
-  went_on {r = Err Halt.NoMemory} l w = record { by = (w.by.0, leads_on l w.by.1) }
+  went_on {r = Err (Exit.Stopped c)} l w = record { by = leads_on l w.by }
+  went_on {r = Err (Exit.Throwing v)} l w = record { by = leads_on l w.by }
+  went_on {r = Err (Exit.Thrown v)} l w = record { by = leads_on l w.by }
+  went_on {r = Err Exit.Quit} l w = record { by = leads_on l w.by }
+  went_on {r = Err Exit.Closed} l w = record { by = leads_on l w.by }
+  went_on {r = Err Exit.NoMemory} l w = record { by = (w.by.0, leads_on l w.by.1) }
 
   -- what is over did not need the rest
-  pub went_out : {A B : Type 0} {s z : S} {t : Play} {h : Halt} {k : A → Play} {j : B → Play} {st : State} → Went step s t (Err h) k st z → Went step s t (Err h) j st z
-  went_out {h = Halt.Stopped c} w = record { by = w.by }
-  went_out {h = Halt.Quit} w = record { by = w.by }
-  went_out {h = Halt.Closed} w = record { by = w.by }
-  went_out {h = Halt.NoMemory} w = record { by = w.by }
+  pub went_out : {A B : Type 0} {s z : S} {t : Play} {h : Exit} {k : A → Play} {j : B → Play} {st : State} → Went step s t (Err h) k st z → Went step s t (Err h) j st z
+  went_out {h = Exit.Stopped c} w = record { by = w.by }
+  went_out {h = Exit.Throwing v} w = record { by = w.by }
+  went_out {h = Exit.Thrown v} w = record { by = w.by }
+  went_out {h = Exit.Quit} w = record { by = w.by }
+  went_out {h = Exit.Closed} w = record { by = w.by }
+  went_out {h = Exit.NoMemory} w = record { by = w.by }
 
   -- whatever the end, it came from t to somewhere
-  pub went_somewhere : {A : Type 0} {s z : S} {t : Play} {r : Result A Halt} {k : A → Play} {st : State} → Went step s t r k st z → (u : Play) × Leads step s t u z
+  pub went_somewhere : {A : Type 0} {s z : S} {t : Play} {r : Result A Exit} {k : A → Play} {st : State} → Went step s t r k st z → (u : Play) × Leads step s t u z
   went_somewhere {r = Ok v} w = (_, w.by)
-  went_somewhere {r = Err (Halt.Stopped c)} w = (_, w.by)
-  went_somewhere {r = Err Halt.Quit} w = (_, w.by)
-  went_somewhere {r = Err Halt.Closed} w = (_, w.by)
-  went_somewhere {r = Err Halt.NoMemory} w = w.by
+  went_somewhere {r = Err (Exit.Stopped c)} w = (_, w.by)
+  went_somewhere {r = Err (Exit.Throwing v)} w = (_, w.by)
+  went_somewhere {r = Err (Exit.Thrown v)} w = (_, w.by)
+  went_somewhere {r = Err Exit.Quit} w = (_, w.by)
+  went_somewhere {r = Err Exit.Closed} w = (_, w.by)
+  went_somewhere {r = Err Exit.NoMemory} w = w.by
 
   -- with want of memory nothing is said of the state after
-  pub went_lost : {A : Type 0} {s z : S} {t u : Play} {k : A → Play} {st : State} → Leads step s t u z → Went step s t (Err Halt.NoMemory) k st z
+  pub went_lost : {A : Type 0} {s z : S} {t u : Play} {k : A → Play} {st : State} → Leads step s t u z → Went step s t (Err Exit.NoMemory) k st z
   went_lost {u = u} l = record { by = (u, l) }
 
-  pub went_after : {s z : S} {t : Play} {r : Result Tree Halt} {st : State} (k : Tree → State → Play) → Went step s t r (λ v. Over (Value v) st) st z
+  pub went_after : {s z : S} {t : Play} {r : Result Tree Exit} {st : State} (k : Tree → State → Play) → Went step s t r (λ v. Over (Value v) st) st z
       → Went step s (after t k) r (λ v. k v st) st z
   went_after {r = Ok v} k w = record { by = ending_leads (on_value k) w.by }
-  went_after {r = Err (Halt.Stopped c)} k w = record { by = ending_leads (on_value k) w.by }
-  went_after {r = Err Halt.Quit} k w = record { by = ending_leads (on_value k) w.by }
-  went_after {r = Err Halt.Closed} k w = record { by = ending_leads (on_value k) w.by }
-  went_after {r = Err Halt.NoMemory} k w = record { by = (ending w.by.0 (on_value k), ending_leads (on_value k) w.by.1) }
+  went_after {r = Err (Exit.Stopped c)} k w = record { by = ending_leads (on_value k) w.by }
+  went_after {r = Err (Exit.Throwing v)} k w = record { by = ending_leads (on_value k) w.by }
+  went_after {r = Err (Exit.Thrown v)} k w = record { by = ending_leads (on_value k) w.by }
+  went_after {r = Err Exit.Quit} k w = record { by = ending_leads (on_value k) w.by }
+  went_after {r = Err Exit.Closed} k w = record { by = ending_leads (on_value k) w.by }
+  went_after {r = Err Exit.NoMemory} k w = record { by = (ending w.by.0 (on_value k), ending_leads (on_value k) w.by.1) }
 
-  -- the end of a pass
-  went_passed : {s z : S} {t : Play} {r : Result Tree Halt} {st : State} (set : Setting) (m : ℕ) (on : Tree → State → Play) (e : Tree)
-      → Went step s t r (λ v. Over (Value v) st) st z → Went step s (ending t (passed set m on e)) r (λ v. judged set m on e v st) st z
-  went_passed {r = Ok v} set m on e w = record { by = ending_leads (passed set m on e) w.by }
-  went_passed {r = Err (Halt.Stopped c)} set m on e w = record { by = ending_leads (passed set m on e) w.by }
-  went_passed {r = Err Halt.Quit} set m on e w = record { by = ending_leads (passed set m on e) w.by }
-  went_passed {r = Err Halt.Closed} set m on e w = record { by = ending_leads (passed set m on e) w.by }
-  went_passed {r = Err Halt.NoMemory} set m on e w = record { by = (ending w.by.0 (passed set m on e), ending_leads (passed set m on e) w.by.1) }
+  -- what is thrown is the value of a Catch
+  pub went_caught : {s z : S} {t : Play} {r : Result Tree Exit} {st : State} (k : Tree → State → Play) → Went step s t r (λ v. Over (Value v) st) st z
+      → Went step s (ending t (catching k)) (caught r) (λ v. k v st) st z
+  went_caught {r = Ok v} k w = record { by = ending_leads (catching k) w.by }
+  went_caught {r = Err (Exit.Stopped c)} k w = record { by = ending_leads (catching k) w.by }
+  went_caught {r = Err (Exit.Throwing v)} k w = record { by = ending_leads (catching k) w.by }
+  went_caught {r = Err (Exit.Thrown v)} k w = record { by = ending_leads (catching k) w.by }
+  went_caught {r = Err Exit.Quit} k w = record { by = ending_leads (catching k) w.by }
+  went_caught {r = Err Exit.Closed} k w = record { by = ending_leads (catching k) w.by }
+  went_caught {r = Err Exit.NoMemory} k w = record { by = (ending w.by.0 (catching k), ending_leads (catching k) w.by.1) }
+
+  -- the end of a pass that throws nothing itself
+  went_passed : {s z : S} {t : Play} {r : Result Tree Exit} {st : State} (set : Setting) (m : ℕ) (on : Tree → State → Play) (e : Tree)
+      → throws_nothing r → Went step s t r (λ v. Over (Value v) st) st z → Went step s (ending t (passed set m on e)) r (λ v. judged set m on e v st) st z
+  went_passed {r = Ok v} set m on e silent w = record { by = ending_leads (passed set m on e) w.by }
+  went_passed {r = Err (Exit.Stopped c)} set m on e silent w = record { by = ending_leads (passed set m on e) w.by }
+  went_passed {r = Err (Exit.Throwing v)} set m on e silent w = absurd silent
+  went_passed {r = Err (Exit.Thrown v)} set m on e silent w = record { by = ending_leads (passed set m on e) w.by }
+  went_passed {r = Err Exit.Quit} set m on e silent w = record { by = ending_leads (passed set m on e) w.by }
+  went_passed {r = Err Exit.Closed} set m on e silent w = record { by = ending_leads (passed set m on e) w.by }
+  went_passed {r = Err Exit.NoMemory} set m on e silent w = record { by = (ending w.by.0 (passed set m on e), ending_leads (passed set m on e) w.by.1) }
 
   -- locals are put back however it ends
-  pub went_locals : {s z : S} {t : Play} {r : Result Tree Halt} {st : State} (set : Setting) (old : Definitions) (ls : List Local) (k : Tree → State → Play)
+  pub went_locals : {s z : S} {t : Play} {r : Result Tree Exit} {st : State} (set : Setting) (old : Definitions) (ls : List Local) (k : Tree → State → Play)
       → Went step s t r (λ v. Over (Value v) st) st z
       → Went step s (ending t (leaving_locals set.names old ls k)) r (λ v. k v (without_locals set.names old ls st)) (without_locals set.names old ls st) z
   went_locals {r = Ok v} set old ls k w = record { by = ending_leads (leaving_locals set.names old ls k) w.by }
-  went_locals {r = Err (Halt.Stopped c)} set old ls k w = record { by = ending_leads (leaving_locals set.names old ls k) w.by }
-  went_locals {r = Err Halt.Quit} set old ls k w = record { by = ending_leads (leaving_locals set.names old ls k) w.by }
-  went_locals {r = Err Halt.Closed} set old ls k w = record { by = ending_leads (leaving_locals set.names old ls k) w.by }
-  went_locals {r = Err Halt.NoMemory} set old ls k w = record { by = (_, ending_leads (leaving_locals set.names old ls k) w.by.1) }
+  went_locals {r = Err (Exit.Stopped c)} set old ls k w = record { by = ending_leads (leaving_locals set.names old ls k) w.by }
+  went_locals {r = Err (Exit.Throwing v)} set old ls k w = record { by = ending_leads (leaving_locals set.names old ls k) w.by }
+  went_locals {r = Err (Exit.Thrown v)} set old ls k w = record { by = ending_leads (leaving_locals set.names old ls k) w.by }
+  went_locals {r = Err Exit.Quit} set old ls k w = record { by = ending_leads (leaving_locals set.names old ls k) w.by }
+  went_locals {r = Err Exit.Closed} set old ls k w = record { by = ending_leads (leaving_locals set.names old ls k) w.by }
+  went_locals {r = Err Exit.NoMemory} set old ls k w = record { by = (_, ending_leads (leaving_locals set.names old ls k) w.by.1) }
 
   -- an expression that is too large stops it
-  pub went_large : {A : Type 0} (o : Option Stop) (k : State → Play) {h : Halt} {j : A → Play} {s : S} {st : State} → FitsBy o (Err h) → Went step s (unless_stopped o st k) (Err h) j st s
-  went_large None k f = absurd f
-  went_large (Some c) k f = rw f (record { by = here })
+  pub went_large : {A : Type 0} (o : Option Stop) (k : State → Play) (h : Halt) {j : A → Play} {s : S} {st : State} → FitsBy o (Err h) → Went step s (unless_stopped o st k) (Err (exit_of h)) j st s
+  went_large None k h f = absurd f
+  went_large (Some c) k h f = rw f (record { by = here })
 
   -- ---- calls
 
@@ -95,13 +138,13 @@ module _ {S : Type 0} {step : Step S} where
   called_value h = record { went = λ k. record { by = called h here } }
 
   pub called_stop : {c : Call} {cause : Stop} {d : Definitions} {s z : S} {st : State} →
-      step s st.definitions c (Halted cause) d z → Called step c s st (Err (Halt.Stopped cause)) (with_definitions d st) z
+      step s st.definitions c (Halted cause) d z → Called step c s st (Err (Exit.Stopped cause)) (with_definitions d st) z
   called_stop h = record { went = λ k. record { by = called h here } }
 
-  pub called_closed : {c : Call} {d : Definitions} {s z : S} {st : State} → step s st.definitions c Shut d z → Called step c s st (Err Halt.Closed) (with_definitions d st) z
+  pub called_closed : {c : Call} {d : Definitions} {s z : S} {st : State} → step s st.definitions c Shut d z → Called step c s st (Err Exit.Closed) (with_definitions d st) z
   called_closed h = record { went = λ k. record { by = called h here } }
 
-  pub called_memory : {c : Call} (d : Definitions) {s z : S} {st st' : State} → step s st.definitions c Lacking d z → Called step c s st (Err Halt.NoMemory) st' z
+  pub called_memory : {c : Call} (d : Definitions) {s z : S} {st st' : State} → step s st.definitions c Lacking d z → Called step c s st (Err Exit.NoMemory) st' z
   called_memory d h = record { went = λ k. record { by = (_, called h here) } }
 
 -- ---- what the pure words say
@@ -148,25 +191,29 @@ inner_is set n locks held e k st is =
     (λ t. after (eval_at set n e t) (λ v u. run set (eval_at set n) (k v) u)) (λ t. run set (eval_at set n) (k (name set.names Builtin.Failed)) t) is
 
 -- Quit, Closed and want of memory make no further call
-abbrev pub makes_no_call : Halt → Type 0
-makes_no_call (Halt.Stopped c) = ⊥
-makes_no_call Halt.Quit = Unit {0}
-makes_no_call Halt.Closed = Unit {0}
-makes_no_call Halt.NoMemory = Unit {0}
+abbrev pub makes_no_call : Exit → Type 0
+makes_no_call (Exit.Stopped c) = ⊥
+makes_no_call (Exit.Throwing v) = Unit {0}
+makes_no_call (Exit.Thrown v) = ⊥
+makes_no_call Exit.Quit = Unit {0}
+makes_no_call Exit.Closed = Unit {0}
+makes_no_call Exit.NoMemory = Unit {0}
 
--- a value and a stop make the call Leave
-abbrev pub makes_leave : Result Tree Halt → Type 0
+-- a value, a stop and a throw make the call Leave
+abbrev pub makes_leave : Result Tree Exit → Type 0
 makes_leave (Ok v) = Unit {0}
-makes_leave (Err (Halt.Stopped c)) = Unit {0}
-makes_leave (Err Halt.Quit) = ⊥
-makes_leave (Err Halt.Closed) = ⊥
-makes_leave (Err Halt.NoMemory) = ⊥
+makes_leave (Err (Exit.Stopped c)) = Unit {0}
+makes_leave (Err (Exit.Throwing v)) = ⊥
+makes_leave (Err (Exit.Thrown v)) = Unit {0}
+makes_leave (Err Exit.Quit) = ⊥
+makes_leave (Err Exit.Closed) = ⊥
+makes_leave (Err Exit.NoMemory) = ⊥
 
 module _ {S : Type 0} {step : Step S} where
   from_leads : {s z : S} {t u v : Play} → t ≡ u → Leads step s t v z → Leads step s u v z
   from_leads {s = s} {z = z} {v = v} e l = subst (λ x. Leads step s x v z) e l
 
-  from_went : {A : Type 0} {s z : S} {t u : Play} {r : Result A Halt} {k : A → Play} {st : State} → t ≡ u → Went step s t r k st z → Went step s u r k st z
+  from_went : {A : Type 0} {s z : S} {t u : Play} {r : Result A Exit} {k : A → Play} {st : State} → t ≡ u → Went step s t r k st z → Went step s u r k st z
   from_went {s = s} {z = z} {r = r} {k = k} {st = st} e w = subst (λ x. Went step s x r k st z) e w
 
   inside_value : {set : Setting} {n : ℕ} {e v w : Tree} (k : Tree → State → Play) {s m z : S} {st st' st'' : State} →
@@ -174,24 +221,33 @@ module _ {S : Type 0} {step : Step S} where
   inside_value {v = v} k a l = leads_on (ending_leads (leaving k) a.went.by) (l.went (λ _ t. k v (opened None t))).by
 
   inside_stop : {set : Setting} {n : ℕ} {e w : Tree} {c : Stop} (k : Tree → State → Play) {s m z : S} {st st' st'' : State} →
-      Evaluated step set n e s st (Err (Halt.Stopped c)) st' m → Called step Leave m st' (Ok w) st'' z →
+      Evaluated step set n e s st (Err (Exit.Stopped c)) st' m → Called step Leave m st' (Ok w) st'' z →
       Leads step s (Inside set n e k st) (Over (Stopped c) (opened None st'')) z
   inside_stop {c = c} k a l = leads_on (ending_leads (leaving k) a.went.by) (l.went (λ _ t. Over (Stopped c) (opened None t))).by
 
-  inside_out : {A : Type 0} {set : Setting} {n : ℕ} {e : Tree} {h : Halt} (k : Tree → State → Play) {j : A → Play} {s z : S} {st st' : State} →
-      makes_no_call h → Evaluated step set n e s st (Err h) st' z → Went step s (Inside set n e k st) (Err h) j st' z
-  inside_out {h = Halt.Stopped c} k silent a = absurd silent
-  inside_out {h = Halt.Quit} k silent a = record { by = ending_leads (leaving k) a.went.by }
-  inside_out {h = Halt.Closed} k silent a = record { by = ending_leads (leaving k) a.went.by }
-  inside_out {h = Halt.NoMemory} k silent a = record { by = (_, ending_leads (leaving k) a.went.by.1) }
+  inside_thrown : {set : Setting} {n : ℕ} {e v w : Tree} (k : Tree → State → Play) {s m z : S} {st st' st'' : State} →
+      Evaluated step set n e s st (Err (Exit.Thrown v)) st' m → Called step Leave m st' (Ok w) st'' z →
+      Leads step s (Inside set n e k st) (Over (Thrown v) (opened None st'')) z
+  inside_thrown {v = v} k a l = leads_on (ending_leads (leaving k) a.went.by) (l.went (λ _ t. Over (Thrown v) (opened None t))).by
 
-  inside_kept : {A : Type 0} {set : Setting} {n : ℕ} {e : Tree} {r : Result Tree Halt} {h : Halt} (k : Tree → State → Play) {j : A → Play} {s m z : S} {st st' st'' : State} →
+  inside_out : {A : Type 0} {set : Setting} {n : ℕ} {e : Tree} {h : Exit} (k : Tree → State → Play) {j : A → Play} {s z : S} {st st' : State} →
+      makes_no_call h → Evaluated step set n e s st (Err h) st' z → Went step s (Inside set n e k st) (Err h) j st' z
+  inside_out {h = Exit.Stopped c} k silent a = absurd silent
+  inside_out {h = Exit.Throwing v} k silent a = record { by = ending_leads (leaving k) a.went.by }
+  inside_out {h = Exit.Thrown v} k silent a = absurd silent
+  inside_out {h = Exit.Quit} k silent a = record { by = ending_leads (leaving k) a.went.by }
+  inside_out {h = Exit.Closed} k silent a = record { by = ending_leads (leaving k) a.went.by }
+  inside_out {h = Exit.NoMemory} k silent a = record { by = (_, ending_leads (leaving k) a.went.by.1) }
+
+  inside_kept : {A : Type 0} {set : Setting} {n : ℕ} {e : Tree} {r : Result Tree Exit} {h : Exit} (k : Tree → State → Play) {j : A → Play} {s m z : S} {st st' st'' : State} →
       makes_leave r → Evaluated step set n e s st r st' m → Called step Leave m st' (Err h) st'' z → Went step s (Inside set n e k st) (Err h) j st'' z
   inside_kept {r = Ok v} k leaves a l = went_on (ending_leads (leaving k) a.went.by) (went_out (l.went (λ _ t. k v (opened None t))))
-  inside_kept {r = Err (Halt.Stopped c)} k leaves a l = went_on (ending_leads (leaving k) a.went.by) (went_out (l.went (λ _ t. Over (Stopped c) (opened None t))))
-  inside_kept {r = Err Halt.Quit} k leaves a l = absurd leaves
-  inside_kept {r = Err Halt.Closed} k leaves a l = absurd leaves
-  inside_kept {r = Err Halt.NoMemory} k leaves a l = absurd leaves
+  inside_kept {r = Err (Exit.Stopped c)} k leaves a l = went_on (ending_leads (leaving k) a.went.by) (went_out (l.went (λ _ t. Over (Stopped c) (opened None t))))
+  inside_kept {r = Err (Exit.Throwing v)} k leaves a l = absurd leaves
+  inside_kept {r = Err (Exit.Thrown v)} k leaves a l = went_on (ending_leads (leaving k) a.went.by) (went_out (l.went (λ _ t. Over (Thrown v) (opened None t))))
+  inside_kept {r = Err Exit.Quit} k leaves a l = absurd leaves
+  inside_kept {r = Err Exit.Closed} k leaves a l = absurd leaves
+  inside_kept {r = Err Exit.NoMemory} k leaves a l = absurd leaves
 
 -- Rules for programs.
 module _ {S : Type 0} {step : Step S} {set : Setting} {n : ℕ} where
@@ -203,7 +259,7 @@ module _ {S : Type 0} {step : Step S} {set : Setting} {n : ℕ} where
   pub reached_on : {p q o : Prog} {s m z : S} {st st' st'' : State} → Reached step set n p s st q st' m → Reached step set n q m st' o st'' z → Reached step set n p s st o st'' z
   reached_on a b = record { on = leads_on a.on b.on }
 
-  pub reached_played : {p q : Prog} {s m z : S} {st st' st'' : State} {r : Result Tree Halt} →
+  pub reached_played : {p q : Prog} {s m z : S} {st st' st'' : State} {r : Result Tree Exit} →
       Reached step set n p s st q st' m → Played step set n q m st' r st'' z → Played step set n p s st r st'' z
   reached_played a b = record { went = went_on a.on b.went }
 
@@ -213,7 +269,7 @@ module _ {S : Type 0} {step : Step S} {set : Setting} {n : ℕ} where
   pub led_on : {A : Type 0} {p q o : (A → Prog) → Prog} {s m z : S} {st st' st'' : State} → Led step set n p s st q st' m → Led step set n q m st' o st'' z → Led step set n p s st o st'' z
   led_on a b = record { on = λ k. reached_on (a.on k) (b.on k) }
 
-  pub led_ran : {A : Type 0} {p q : (A → Prog) → Prog} {s m z : S} {st st' st'' : State} {r : Result A Halt} →
+  pub led_ran : {A : Type 0} {p q : (A → Prog) → Prog} {s m z : S} {st st' st'' : State} {r : Result A Exit} →
       Led step set n p s st q st' m → Ran step set n q m st' r st'' z → Ran step set n p s st r st'' z
   led_ran a b = record { went = λ k. went_on (a.on k).on (b.went k) }
 
@@ -221,14 +277,14 @@ module _ {S : Type 0} {step : Step S} {set : Setting} {n : ℕ} where
   pub reached_part : {A : Type 0} {p : (A → Prog) → Prog} {v : A} (k : A → Prog) {s z : S} {st st' : State} → Ran step set n p s st (Ok v) st' z → Reached step set n (p k) s st (k v) st' z
   reached_part k a = record { on = (a.went k).by }
 
-  pub played_part_out : {A : Type 0} {p : (A → Prog) → Prog} (k : A → Prog) {h : Halt} {s z : S} {st st' : State} → Ran step set n p s st (Err h) st' z → Played step set n (p k) s st (Err h) st' z
+  pub played_part_out : {A : Type 0} {p : (A → Prog) → Prog} (k : A → Prog) {h : Exit} {s z : S} {st st' : State} → Ran step set n p s st (Err h) st' z → Played step set n (p k) s st (Err h) st' z
   played_part_out k a = record { went = went_out (a.went k) }
 
   pub led_then : {A B : Type 0} {p : (A → Prog) → Prog} {v : A} {q : A → (B → Prog) → Prog} {s z : S} {st st' : State} →
       Ran step set n p s st (Ok v) st' z → Led step set n (λ k. p (λ x. q x k)) s st (q v) st' z
   led_then {q = q} a = record { on = λ k. reached_part (λ x. q x k) a }
 
-  pub ran_then_out : {A B : Type 0} {p : (A → Prog) → Prog} {q : A → (B → Prog) → Prog} {s z : S} {st st' : State} {h : Halt} →
+  pub ran_then_out : {A B : Type 0} {p : (A → Prog) → Prog} {q : A → (B → Prog) → Prog} {s z : S} {st st' : State} {h : Exit} →
       Ran step set n p s st (Err h) st' z → Ran step set n (λ k. p (λ x. q x k)) s st (Err h) st' z
   ran_then_out {q = q} a = record { went = λ k. went_out (a.went (λ x. q x k)) }
 
@@ -237,26 +293,26 @@ module _ {S : Type 0} {step : Step S} {set : Setting} {n : ℕ} where
   ran_reached f = record { went = λ k. record { by = (f k).on } }
 
   -- an error is passed on
-  pub ran_err : {A : Type 0} {p : (A → Prog) → Prog} {h : Halt} {r : Result A Halt} {s z : S} {st st' : State} →
+  pub ran_err : {A : Type 0} {p : (A → Prog) → Prog} {h : Exit} {r : Result A Exit} {s z : S} {st st' : State} →
       IsErrAnd r (λ x. x ≡ h) → Ran step set n p s st (Err h) st' z → Ran step set n p s st r st' z
   ran_err {r = Ok v} e a = absurd e
   ran_err {r = Err x} e a = rw e a
 
-  pub played_err : {p : Prog} {h : Halt} {r : Result Tree Halt} {s z : S} {st st' : State} → IsErrAnd r (λ x. x ≡ h) → Played step set n p s st (Err h) st' z → Played step set n p s st r st' z
+  pub played_err : {p : Prog} {h : Exit} {r : Result Tree Exit} {s z : S} {st st' : State} → IsErrAnd r (λ x. x ≡ h) → Played step set n p s st (Err h) st' z → Played step set n p s st r st' z
   played_err {r = Ok v} e a = absurd e
   played_err {r = Err x} e a = rw e a
 
   -- want of memory
-  pub ran_memory : {A : Type 0} {p : (A → Prog) → Prog} {s : S} {st st' : State} → Ran step set n p s st (Err Halt.NoMemory) st' s
+  pub ran_memory : {A : Type 0} {p : (A → Prog) → Prog} {s : S} {st st' : State} → Ran step set n p s st (Err Exit.NoMemory) st' s
   ran_memory = record { went = λ k. went_lost here }
 
-  pub played_memory : {p : Prog} {s : S} {st st' : State} → Played step set n p s st (Err Halt.NoMemory) st' s
+  pub played_memory : {p : Prog} {s : S} {st st' : State} → Played step set n p s st (Err Exit.NoMemory) st' s
   played_memory = record { went = went_lost here }
 
-  pub ran_lost : {A : Type 0} {p : (A → Prog) → Prog} {s : S} {st st' : State} {r : Result A Halt} → IsErrAnd r (λ h. h ≡ Halt.NoMemory) → Ran step set n p s st r st' s
+  pub ran_lost : {A : Type 0} {p : (A → Prog) → Prog} {s : S} {st st' : State} {r : Result A Exit} → IsErrAnd r (λ h. h ≡ Exit.NoMemory) → Ran step set n p s st r st' s
   ran_lost e = ran_err e ran_memory
 
-  pub played_lost : {p : Prog} {s : S} {st st' : State} {r : Result Tree Halt} → IsErrAnd r (λ h. h ≡ Halt.NoMemory) → Played step set n p s st r st' s
+  pub played_lost : {p : Prog} {s : S} {st st' : State} {r : Result Tree Exit} → IsErrAnd r (λ h. h ≡ Exit.NoMemory) → Played step set n p s st r st' s
   played_lost e = played_err e played_memory
 
   -- ---- ends
@@ -264,26 +320,31 @@ module _ {S : Type 0} {step : Step S} {set : Setting} {n : ℕ} where
   pub played_done : {v : Tree} {s : S} {st : State} → Played step set n (Done v) s st (Ok v) st s
   played_done = record { went = record { by = here } }
 
-  pub played_stop : {c : Stop} {s : S} {st : State} → Played step set n (Stops c) s st (Err (Halt.Stopped c)) st s
+  pub played_stop : {c : Stop} {s : S} {st : State} → Played step set n (Stops c) s st (Err (Exit.Stopped c)) st s
   played_stop = record { went = record { by = here } }
 
-  pub played_leaves : {s : S} {st : State} → Played step set n Quits s st (Err Halt.Quit) st s
+  pub played_leaves : {s : S} {st : State} → Played step set n Quits s st (Err Exit.Quit) st s
   played_leaves = record { went = record { by = here } }
 
-  pub played_gives : {p : Prog} {r : Result Tree Halt} {s : S} {st : State} → Gives p r → Played step set n p s st r st s
+  pub played_throws : {v : Tree} {s : S} {st : State} → Played step set n (Throws v) s st (Err (Exit.Throwing v)) st s
+  played_throws = record { went = record { by = here } }
+
+  pub played_gives : {p : Prog} {r : Result Tree Exit} {s : S} {st : State} → Gives p r → Played step set n p s st r st s
   played_gives {r = Ok v} g = rw g.by played_done
-  played_gives {r = Err (Halt.Stopped c)} g = rw g.by played_stop
-  played_gives {r = Err Halt.Quit} g = rw g.by played_leaves
-  played_gives {r = Err Halt.Closed} g = absurd g.by
-  played_gives {r = Err Halt.NoMemory} g = played_memory
+  played_gives {r = Err (Exit.Stopped c)} g = rw g.by played_stop
+  played_gives {r = Err (Exit.Throwing v)} g = rw g.by played_throws
+  played_gives {r = Err (Exit.Thrown v)} g = absurd g.by
+  played_gives {r = Err Exit.Quit} g = rw g.by played_leaves
+  played_gives {r = Err Exit.Closed} g = absurd g.by
+  played_gives {r = Err Exit.NoMemory} g = played_memory
 
   pub ran_value : {A : Type 0} {v : A} {s : S} {st : State} → Ran step set n (λ k. k v) s st (Ok v) st s
   ran_value = record { went = λ k. record { by = here } }
 
-  pub ran_stop : {A : Type 0} {c : Stop} {s : S} {st : State} → Ran {A = A} step set n (λ k. Stops c) s st (Err (Halt.Stopped c)) st s
+  pub ran_stop : {A : Type 0} {c : Stop} {s : S} {st : State} → Ran {A = A} step set n (λ k. Stops c) s st (Err (Exit.Stopped c)) st s
   ran_stop = record { went = λ k. record { by = here } }
 
-  pub ran_leaves : {A : Type 0} {s : S} {st : State} → Ran {A = A} step set n (λ k. Quits) s st (Err Halt.Quit) st s
+  pub ran_leaves : {A : Type 0} {s : S} {st : State} → Ran {A = A} step set n (λ k. Quits) s st (Err Exit.Quit) st s
   ran_leaves = record { went = λ k. record { by = here } }
 
   -- ---- an expression is evaluated one deeper
@@ -291,23 +352,27 @@ module _ {S : Type 0} {step : Step S} {set : Setting} {n : ℕ} where
   pub reached_ask : {e v : Tree} {k : Tree → Prog} {s z : S} {st st' : State} → Evaluated step set n e s st (Ok v) st' z → Reached step set n (Ask e k) s st (k v) st' z
   reached_ask {k = k} a = record { on = (went_after (λ x y. run set (eval_at set n) (k x) y) a.went).by }
 
-  pub played_ask_out : {e : Tree} {k : Tree → Prog} {h : Halt} {s z : S} {st st' : State} → Evaluated step set n e s st (Err h) st' z → Played step set n (Ask e k) s st (Err h) st' z
+  pub played_ask_out : {e : Tree} {k : Tree → Prog} {h : Exit} {s z : S} {st st' : State} → Evaluated step set n e s st (Err h) st' z → Played step set n (Ask e k) s st (Err h) st' z
   played_ask_out {k = k} a = record { went = went_out (went_after (λ x y. run set (eval_at set n) (k x) y) a.went) }
 
   pub led_ask : {A : Type 0} {e v : Tree} {q : Tree → (A → Prog) → Prog} {s z : S} {st st' : State} →
       Evaluated step set n e s st (Ok v) st' z → Led step set n (λ k. Ask e (λ x. q x k)) s st (q v) st' z
   led_ask {q = q} a = record { on = λ k. reached_ask {k = λ x. q x k} a }
 
-  pub ran_ask_out : {A : Type 0} {e : Tree} {q : Tree → (A → Prog) → Prog} {h : Halt} {s z : S} {st st' : State} →
+  pub ran_ask_out : {A : Type 0} {e : Tree} {q : Tree → (A → Prog) → Prog} {h : Exit} {s z : S} {st st' : State} →
       Evaluated step set n e s st (Err h) st' z → Ran step set n (λ k. Ask e (λ x. q x k)) s st (Err h) st' z
   ran_ask_out {q = q} a = record { went = λ k. went_out (went_after (λ x y. run set (eval_at set n) (q x k) y) a.went) }
 
-  pub ran_ask : {e : Tree} {r : Result Tree Halt} {s z : S} {st st' : State} → Evaluated step set n e s st r st' z → Ran step set n (Ask e) s st r st' z
+  pub ran_ask : {e : Tree} {r : Result Tree Exit} {s z : S} {st st' : State} → Evaluated step set n e s st r st' z → Ran step set n (Ask e) s st r st' z
   ran_ask a = record { went = λ k. went_after (λ x y. run set (eval_at set n) (k x) y) a.went }
 
   -- as the last thing of a closed program
-  pub played_ask : {e : Tree} {r : Result Tree Halt} {s z : S} {st st' : State} → Evaluated step set n e s st r st' z → Played step set n (Ask e Done) s st r st' z
+  pub played_ask : {e : Tree} {r : Result Tree Exit} {s z : S} {st st' : State} → Evaluated step set n e s st r st' z → Played step set n (Ask e Done) s st r st' z
   played_ask a = record { went = went_after (λ v t. Over (Value v) t) a.went }
+
+  -- what it throws is its value
+  pub ran_catch : {e : Tree} {r : Result Tree Exit} {s z : S} {st st' : State} → Evaluated step set n e s st r st' z → Ran step set n (Catches e) s st (caught r) st' z
+  ran_catch a = record { went = λ k. went_caught (λ x y. run set (eval_at set n) (k x) y) a.went }
 
   -- ---- the same with locals
 
@@ -315,15 +380,15 @@ module _ {S : Type 0} {step : Step S} {set : Setting} {n : ℕ} where
       Reached step set n (Within ls e k) s st (k v) (without_locals set.names st.definitions ls st') z
   reached_within {ls = ls} {k = k} {st = st} a = record { on = (went_locals set st.definitions ls (λ x y. run set (eval_at set n) (k x) y) a.went).by }
 
-  pub played_within_out : {ls : List Local} {e : Tree} {k : Tree → Prog} {h : Halt} {s z : S} {st st' : State} → Evaluated step set n e s (with_locals set.names ls st) (Err h) st' z →
+  pub played_within_out : {ls : List Local} {e : Tree} {k : Tree → Prog} {h : Exit} {s z : S} {st st' : State} → Evaluated step set n e s (with_locals set.names ls st) (Err h) st' z →
       Played step set n (Within ls e k) s st (Err h) (without_locals set.names st.definitions ls st') z
   played_within_out {ls = ls} {k = k} {st = st} a = record { went = went_out (went_locals set st.definitions ls (λ x y. run set (eval_at set n) (k x) y) a.went) }
 
-  pub ran_within : {ls : List Local} {e : Tree} {r : Result Tree Halt} {s z : S} {st st' : State} → Evaluated step set n e s (with_locals set.names ls st) r st' z →
+  pub ran_within : {ls : List Local} {e : Tree} {r : Result Tree Exit} {s z : S} {st st' : State} → Evaluated step set n e s (with_locals set.names ls st) r st' z →
       Ran step set n (Within ls e) s st r (without_locals set.names st.definitions ls st') z
   ran_within {ls = ls} {st = st} a = record { went = λ k. went_locals set st.definitions ls (λ x y. run set (eval_at set n) (k x) y) a.went }
 
-  pub played_within : {ls : List Local} {e : Tree} {r : Result Tree Halt} {s z : S} {st st' : State} → Evaluated step set n e s (with_locals set.names ls st) r st' z →
+  pub played_within : {ls : List Local} {e : Tree} {r : Result Tree Exit} {s z : S} {st st' : State} → Evaluated step set n e s (with_locals set.names ls st) r st' z →
       Played step set n (Within ls e Done) s st r (without_locals set.names st.definitions ls st') z
   played_within {ls = ls} {st = st} a = record { went = went_locals set st.definitions ls (λ v t. Over (Value v) t) a.went }
 
@@ -343,21 +408,29 @@ module _ {S : Type 0} {step : Step S} {set : Setting} {n : ℕ} where
 
   -- the body stopped
   pub played_section_stop : {locks : List Sym} {e x y : Tree} {c : Stop} {k : Tree → Prog} {s a b z : S} {st st1 st2 st3 : State} → st.open_section ≡ None →
-      Called step (Enter locks) s st (Ok x) st1 a → Evaluated step set n e a (opened (Some locks) st1) (Err (Halt.Stopped c)) st2 b → Called step Leave b st2 (Ok y) st3 z →
-      Played step set n (Section locks e k) s st (Err (Halt.Stopped c)) (opened None st3) z
+      Called step (Enter locks) s st (Ok x) st1 a → Evaluated step set n e a (opened (Some locks) st1) (Err (Exit.Stopped c)) st2 b → Called step Leave b st2 (Ok y) st3 z →
+      Played step set n (Section locks e k) s st (Err (Exit.Stopped c)) (opened None st3) z
   played_section_stop {locks = locks} {e = e} {k = k} {st = st} none enter body leave =
       let go : Tree → State → Play = λ v u. run set (eval_at set n) (k v) u in
       record { went = from_went (section_is set n locks e k st none) (record { by = leads_on (enter.went (λ _ t. Inside set n e go (opened (Some locks) t))).by (inside_stop go body leave) }) }
 
+  -- it threw
+  pub played_section_thrown : {locks : List Sym} {e v x y : Tree} {k : Tree → Prog} {s a b z : S} {st st1 st2 st3 : State} → st.open_section ≡ None →
+      Called step (Enter locks) s st (Ok x) st1 a → Evaluated step set n e a (opened (Some locks) st1) (Err (Exit.Thrown v)) st2 b → Called step Leave b st2 (Ok y) st3 z →
+      Played step set n (Section locks e k) s st (Err (Exit.Thrown v)) (opened None st3) z
+  played_section_thrown {locks = locks} {e = e} {k = k} {st = st} none enter body leave =
+      let go : Tree → State → Play = λ v u. run set (eval_at set n) (k v) u in
+      record { went = from_went (section_is set n locks e k st none) (record { by = leads_on (enter.went (λ _ t. Inside set n e go (opened (Some locks) t))).by (inside_thrown go body leave) }) }
+
   -- it was not entered
-  pub played_section_closed : {locks : List Sym} {e : Tree} {h : Halt} {k : Tree → Prog} {s z : S} {st st1 : State} → st.open_section ≡ None →
+  pub played_section_closed : {locks : List Sym} {e : Tree} {h : Exit} {k : Tree → Prog} {s z : S} {st st1 : State} → st.open_section ≡ None →
       Called step (Enter locks) s st (Err h) st1 z → Played step set n (Section locks e k) s st (Err h) st1 z
   played_section_closed {locks = locks} {e = e} {k = k} {st = st} none enter =
       let go : Tree → State → Play = λ v u. run set (eval_at set n) (k v) u in
       record { went = from_went (section_is set n locks e k st none) (went_out (enter.went (λ _ t. Inside set n e go (opened (Some locks) t)))) }
 
   -- the body ended with Quit, Closed or want of memory
-  pub played_section_out : {locks : List Sym} {e x : Tree} {h : Halt} {k : Tree → Prog} {s a z : S} {st st1 st2 : State} → st.open_section ≡ None →
+  pub played_section_out : {locks : List Sym} {e x : Tree} {h : Exit} {k : Tree → Prog} {s a z : S} {st st1 st2 : State} → st.open_section ≡ None →
       Called step (Enter locks) s st (Ok x) st1 a → makes_no_call h → Evaluated step set n e a (opened (Some locks) st1) (Err h) st2 z →
       Played step set n (Section locks e k) s st (Err h) st2 z
   played_section_out {locks = locks} {e = e} {k = k} {st = st} none enter silent body =
@@ -365,7 +438,7 @@ module _ {S : Type 0} {step : Step S} {set : Setting} {n : ℕ} where
       record { went = from_went (section_is set n locks e k st none) (went_on (enter.went (λ _ t. Inside set n e go (opened (Some locks) t))).by (inside_out go silent body)) }
 
   -- Leave gave no value
-  pub played_section_kept : {locks : List Sym} {e x : Tree} {r : Result Tree Halt} {h : Halt} {k : Tree → Prog} {s a b z : S} {st st1 st2 st3 : State} → st.open_section ≡ None →
+  pub played_section_kept : {locks : List Sym} {e x : Tree} {r : Result Tree Exit} {h : Exit} {k : Tree → Prog} {s a b z : S} {st st1 st2 st3 : State} → st.open_section ≡ None →
       Called step (Enter locks) s st (Ok x) st1 a → makes_leave r → Evaluated step set n e a (opened (Some locks) st1) r st2 b → Called step Leave b st2 (Err h) st3 z →
       Played step set n (Section locks e k) s st (Err h) st3 z
   played_section_kept {locks = locks} {e = e} {k = k} {st = st} none enter leaves body leave =
@@ -379,7 +452,7 @@ module _ {S : Type 0} {step : Step S} {set : Setting} {n : ℕ} where
   reached_inner {locks = locks} {held = held} {e = e} {k = k} {st = st} is all a =
       record { on = from_leads (inner_is set n locks held e k st is) (rw all (went_after (λ x y. run set (eval_at set n) (k x) y) a.went).by) }
 
-  pub played_inner_out : {locks held : List Sym} {e : Tree} {h : Halt} {k : Tree → Prog} {s z : S} {st st' : State} → st.open_section ≡ Some held → all_among locks held ≡ true →
+  pub played_inner_out : {locks held : List Sym} {e : Tree} {h : Exit} {k : Tree → Prog} {s z : S} {st st' : State} → st.open_section ≡ Some held → all_among locks held ≡ true →
       Evaluated step set n e s st (Err h) st' z → Played step set n (Section locks e k) s st (Err h) st' z
   played_inner_out {locks = locks} {held = held} {e = e} {k = k} {st = st} is all a =
       record { went = from_went (inner_is set n locks held e k st is) (rw all (went_out (went_after (λ x y. run set (eval_at set n) (k x) y) a.went))) }
@@ -408,17 +481,17 @@ module _ {S : Type 0} {step : Step S} {set : Setting} {n : ℕ} where
   pub reached_outer : {c : Request} {v : Tree} {k : Tree → Prog} {s z : S} {st st' : State} → Called step (Sends c) s st (Ok v) st' z → Reached step set n (Outer c k) s st (k v) st' z
   reached_outer {k = k} a = record { on = (a.went (λ x y. run set (eval_at set n) (k x) y)).by }
 
-  pub ran_outer_out : {A : Type 0} {c : Request} {h : Halt} {q : Tree → (A → Prog) → Prog} {s z : S} {st st' : State} →
+  pub ran_outer_out : {A : Type 0} {c : Request} {h : Exit} {q : Tree → (A → Prog) → Prog} {s z : S} {st st' : State} →
       Called step (Sends c) s st (Err h) st' z → Ran step set n (λ k. Outer c (λ v. q v k)) s st (Err h) st' z
   ran_outer_out {q = q} a = record { went = λ k. went_out (a.went (λ x y. run set (eval_at set n) (q x k) y)) }
 
-  pub played_outer_out : {c : Request} {h : Halt} {k : Tree → Prog} {s z : S} {st st' : State} → Called step (Sends c) s st (Err h) st' z → Played step set n (Outer c k) s st (Err h) st' z
+  pub played_outer_out : {c : Request} {h : Exit} {k : Tree → Prog} {s z : S} {st st' : State} → Called step (Sends c) s st (Err h) st' z → Played step set n (Outer c k) s st (Err h) st' z
   played_outer_out {k = k} a = record { went = went_out (a.went (λ x y. run set (eval_at set n) (k x) y)) }
 
-  pub ran_outer : {c : Request} {r : Result Tree Halt} {s z : S} {st st' : State} → Called step (Sends c) s st r st' z → Ran step set n (Outer c) s st r st' z
+  pub ran_outer : {c : Request} {r : Result Tree Exit} {s z : S} {st st' : State} → Called step (Sends c) s st r st' z → Ran step set n (Outer c) s st r st' z
   ran_outer a = record { went = λ k. a.went (λ x y. run set (eval_at set n) (k x) y) }
 
-  pub played_outer : {c : Request} {r : Result Tree Halt} {s z : S} {st st' : State} → Called step (Sends c) s st r st' z → Played step set n (Outer c Done) s st r st' z
+  pub played_outer : {c : Request} {r : Result Tree Exit} {s z : S} {st st' : State} → Called step (Sends c) s st r st' z → Played step set n (Outer c Done) s st r st' z
   played_outer a = record { went = a.went (λ v t. Over (Value v) t) }
 
   -- ---- steps
@@ -427,7 +500,7 @@ module _ {S : Type 0} {step : Step S} {set : Setting} {n : ℕ} where
   reached_turn {st = st} c = record { on = rw (lt-ltb st.steps set.limits.steps c.by.0, c.by.1) here }
 
   pub played_turn_out : {p : Prog} {h : Halt} {m : ℕ} {s : S} {st : State} → Counted true set.limits.steps st.steps (Err h) m →
-      Played step set n (Turn p) s st (Err h) (record st { steps = m }) s
+      Played step set n (Turn p) s st (Err (exit_of h)) (record st { steps = m }) s
   played_turn_out {st = st} c = record { went = rw (c.by.0, c.by.2, le-ltb st.steps set.limits.steps c.by.1) (record { by = here }) }
 
   pub led_turn : {A : Type 0} {p : (A → Prog) → Prog} {u : Unit {0}} {m : ℕ} {s : S} {st : State} → Counted true set.limits.steps st.steps (Ok u) m →
@@ -435,7 +508,7 @@ module _ {S : Type 0} {step : Step S} {set : Setting} {n : ℕ} where
   led_turn c = record { on = λ k. reached_turn c }
 
   pub ran_turn_out : {A : Type 0} {p : (A → Prog) → Prog} {h : Halt} {m : ℕ} {s : S} {st : State} → Counted true set.limits.steps st.steps (Err h) m →
-      Ran step set n (λ k. Turn (p k)) s st (Err h) (record st { steps = m }) s
+      Ran step set n (λ k. Turn (p k)) s st (Err (exit_of h)) (record st { steps = m }) s
   ran_turn_out {p = p} c = record { went = λ k. went_out (played_turn_out {p = p k} c).went }
 
   -- ---- expressions that count as results
@@ -443,14 +516,14 @@ module _ {S : Type 0} {step : Step S} {set : Setting} {n : ℕ} where
   pub reached_check : {e : Tree} {p : Prog} {u : Unit {0}} {s : S} {st : State} → Fits set.limits e (Ok u) → Reached step set n (Check e p) s st p st s
   reached_check {e = e} f = record { on = rw (fits_none (too_large set.limits e) f.by) here }
 
-  pub played_check_out : {e : Tree} {p : Prog} {h : Halt} {s : S} {st : State} → Fits set.limits e (Err h) → Played step set n (Check e p) s st (Err h) st s
-  played_check_out {e = e} f = record { went = went_large (too_large set.limits e) _ f.by }
+  pub played_check_out : {e : Tree} {p : Prog} {h : Halt} {s : S} {st : State} → Fits set.limits e (Err h) → Played step set n (Check e p) s st (Err (exit_of h)) st s
+  played_check_out {e = e} f = record { went = went_large (too_large set.limits e) _ _ f.by }
 
   pub led_check : {A : Type 0} {e : Tree} {p : (A → Prog) → Prog} {u : Unit {0}} {s : S} {st : State} → Fits set.limits e (Ok u) → Led step set n (λ k. Check e (p k)) s st p st s
   led_check f = record { on = λ k. reached_check f }
 
-  pub ran_check_out : {A : Type 0} {e : Tree} {p : (A → Prog) → Prog} {h : Halt} {s : S} {st : State} → Fits set.limits e (Err h) → Ran step set n (λ k. Check e (p k)) s st (Err h) st s
-  ran_check_out {e = e} f = record { went = λ k. went_large (too_large set.limits e) _ f.by }
+  pub ran_check_out : {A : Type 0} {e : Tree} {p : (A → Prog) → Prog} {h : Halt} {s : S} {st : State} → Fits set.limits e (Err h) → Ran step set n (λ k. Check e (p k)) s st (Err (exit_of h)) st s
+  ran_check_out {e = e} f = record { went = λ k. went_large (too_large set.limits e) _ _ f.by }
 
   -- ---- module numbers
 
@@ -458,7 +531,7 @@ module _ {S : Type 0} {step : Step S} {set : Setting} {n : ℕ} where
   reached_fresh {st = st} t = record { on = rw (t.by.1, t.by.2, ne_eqb st.definitions.module_number last_number t.by.0) here }
 
   pub played_fresh_out : {k : ℕ → Prog} {h : Halt} {d : Definitions} {s : S} {st : State} → Numbered st.definitions (Err h) d →
-      Played step set n (Fresh k) s st (Err h) (with_definitions d st) s
+      Played step set n (Fresh k) s st (Err (exit_of h)) (with_definitions d st) s
   played_fresh_out {st = st} t = record { went = rw (t.by.0, t.by.2, eq-eqb st.definitions.module_number last_number t.by.1) (record { by = here }) }
 
   -- ---- the fixed point
@@ -469,24 +542,49 @@ module _ {S : Type 0} {step : Step S} {set : Setting} {n : ℕ} where
   pub passed_on : {a b c : ℕ} {e f g : Tree} {s m z : S} {st st' st'' : State} → Passed step set n a e s st b f st' m → Passed step set n b f m st' c g st'' z → Passed step set n a e s st c g st'' z
   passed_on x y = record { on = leads_on x.on y.on }
 
-  pub passed_settled : {a b : ℕ} {e f : Tree} {r : Result Tree Halt} {s m z : S} {st st' st'' : State} →
+  pub passed_settled : {a b : ℕ} {e f : Tree} {r : Result Tree Exit} {s m z : S} {st st' st'' : State} →
       Passed step set n a e s st b f st' m → Settled step set n b f m st' r st'' z → Settled step set n a e s st r st'' z
   passed_settled x y = record { went = went_on x.on y.went }
 
   pass_leads : (m : ℕ) (e : Tree) {v : Tree} {s z : S} {st st' : State} → Played step set n (pass set.names e) s st (Ok v) st' z →
       Leads step s (passes set (eval_at set n) m e st) (judging set n m e v st') z
-  pass_leads zero e a = (went_passed set zero (again set n zero) e a.went).by
-  pass_leads (suc m) e a = (went_passed set (suc m) (again set n (suc m)) e a.went).by
+  pass_leads zero e a = (went_passed set zero (again set n zero) e tt a.went).by
+  pass_leads (suc m) e a = (went_passed set (suc m) (again set n (suc m)) e tt a.went).by
 
-  -- the pass gave no value
-  pub settled_pass_out : (m : ℕ) (e : Tree) {h : Halt} {s z : S} {st st' : State} → Played step set n (pass set.names e) s st (Err h) st' z → Settled step set n m e s st (Err h) st' z
-  settled_pass_out zero e a = record { went = went_out (went_passed set zero (again set n zero) e a.went) }
-  settled_pass_out (suc m) e a = record { went = went_out (went_passed set (suc m) (again set n (suc m)) e a.went) }
+  -- the pass gave no value, and threw none itself
+  pub settled_pass_out : (m : ℕ) (e : Tree) {h : Exit} {s z : S} {st st' : State} → throws_nothing {A = Tree} (Err h) → Played step set n (pass set.names e) s st (Err h) st' z → Settled step set n m e s st (Err h) st' z
+  settled_pass_out zero e silent a = record { went = went_out (went_passed set zero (again set n zero) e silent a.went) }
+  settled_pass_out (suc m) e silent a = record { went = went_out (went_passed set (suc m) (again set n (suc m)) e silent a.went) }
+
+  throw_leads : (m : ℕ) (e : Tree) {v : Tree} {s z : S} {st st' : State} → Played step set n (pass set.names e) s st (Err (Exit.Throwing v)) st' z →
+      Leads step s (passes set (eval_at set n) m e st) (changed set m (λ w t. Over (Thrown w) t) v st') z
+  throw_leads zero e a = ending_leads (passed set zero (again set n zero) e) a.went.by
+  throw_leads (suc m) e a = ending_leads (passed set (suc m) (again set n (suc m)) e) a.went.by
+
+  -- it threw, which counts as a changing pass: none is left
+  pub settled_throw_worn : (m : ℕ) (e : Tree) {v : Tree} {s z : S} {st st' : State} → m ≡ 0 → Played step set n (pass set.names e) s st (Err (Exit.Throwing v)) st' z →
+      Settled step set n m e s st (Err (Exit.Stopped Stop.Iteration)) st' z
+  settled_throw_worn zero e none a = record { went = record { by = throw_leads zero e a } }
+  settled_throw_worn (suc m) e none a = absurd (omega arith)
+
+  -- no step is left
+  pub settled_throw_out : (m : ℕ) (e : Tree) {v : Tree} {i : ℕ} {h : Halt} {s z : S} {st st' : State} → 0 < m → Played step set n (pass set.names e) s st (Err (Exit.Throwing v)) st' z →
+      Counted true set.limits.steps st'.steps (Err h) i → Settled step set n m e s st (Err (exit_of h)) (record st' { steps = i }) z
+  settled_throw_out zero e some a c = absurd (omega arith)
+  settled_throw_out (suc m) e {st' = st'} some a c =
+      record { went = went_on (throw_leads (suc m) e a) (rw (c.by.0, c.by.2, le-ltb st'.steps set.limits.steps c.by.1) (record { by = here })) }
+
+  -- it passes outwards
+  pub settled_thrown : (m : ℕ) (e : Tree) {v : Tree} {i : ℕ} {u : Unit {0}} {s z : S} {st st' : State} → 0 < m → Played step set n (pass set.names e) s st (Err (Exit.Throwing v)) st' z →
+      Counted true set.limits.steps st'.steps (Ok u) i → Settled step set n m e s st (Err (Exit.Thrown v)) (record st' { steps = i }) z
+  settled_thrown zero e some a c = absurd (omega arith)
+  settled_thrown (suc m) e {st' = st'} some a c =
+      record { went = record { by = leads_on (throw_leads (suc m) e a) (rw (c.by.1, lt-ltb st'.steps set.limits.steps c.by.0) here) } }
 
   -- its value is too large
   pub settled_large : (m : ℕ) (e : Tree) {v : Tree} {h : Halt} {s z : S} {st st' : State} → Played step set n (pass set.names e) s st (Ok v) st' z → Fits set.limits v (Err h) →
-      Settled step set n m e s st (Err h) st' z
-  settled_large m e {v = v} a f = record { went = went_on (pass_leads m e a) (went_large (too_large set.limits v) _ f.by) }
+      Settled step set n m e s st (Err (exit_of h)) st' z
+  settled_large m e {v = v} a f = record { went = went_on (pass_leads m e a) (went_large (too_large set.limits v) _ _ f.by) }
 
   -- its value is the expression itself
   pub settled_same : (m : ℕ) (e : Tree) {v : Tree} {u : Unit {0}} {s z : S} {st st' : State} → Played step set n (pass set.names e) s st (Ok v) st' z → Fits set.limits v (Ok u) →
@@ -495,13 +593,13 @@ module _ {S : Type 0} {step : Step S} {set : Setting} {n : ℕ} where
 
   -- no changing pass is left
   pub settled_worn : (m : ℕ) (e : Tree) {v : Tree} {u : Unit {0}} {s z : S} {st st' : State} → m ≡ 0 → Played step set n (pass set.names e) s st (Ok v) st' z → Fits set.limits v (Ok u) →
-      same v e ≡ false → Settled step set n m e s st (Err (Halt.Stopped Stop.Iteration)) st' z
+      same v e ≡ false → Settled step set n m e s st (Err (Exit.Stopped Stop.Iteration)) st' z
   settled_worn zero e {v = v} none a f is = record { went = record { by = leads_on (pass_leads zero e a) (rw (fits_none (too_large set.limits v) f.by, is) here) } }
   settled_worn (suc m) e none a f is = absurd (omega arith)
 
   -- no step is left
   pub settled_again_out : (m : ℕ) (e : Tree) {v : Tree} {i : ℕ} {h : Halt} {u : Unit {0}} {s z : S} {st st' : State} → 0 < m → Played step set n (pass set.names e) s st (Ok v) st' z →
-      Fits set.limits v (Ok u) → same v e ≡ false → Counted true set.limits.steps st'.steps (Err h) i → Settled step set n m e s st (Err h) (record st' { steps = i }) z
+      Fits set.limits v (Ok u) → same v e ≡ false → Counted true set.limits.steps st'.steps (Err h) i → Settled step set n m e s st (Err (exit_of h)) (record st' { steps = i }) z
   settled_again_out zero e some a f is c = absurd (omega arith)
   settled_again_out (suc m) e {v = v} {st' = st'} some a f is c =
       record {
@@ -517,11 +615,11 @@ module _ {S : Type 0} {step : Step S} {set : Setting} {n : ℕ} where
       record { on = leads_on (pass_leads (suc m) e a) (rw (fits_none (too_large set.limits v) f.by, is, c.by.1, lt-ltb st'.steps set.limits.steps c.by.0, sub-one) here) }
 
 -- no nested evaluation is left
-pub evaluated_out : {S : Type 0} {step : Step S} {set : Setting} {e : Tree} {s : S} {st : State} → Evaluated step set 0 e s st (Err (Halt.Stopped Stop.Recursion)) st s
+pub evaluated_out : {S : Type 0} {step : Step S} {set : Setting} {e : Tree} {s : S} {st : State} → Evaluated step set 0 e s st (Err (Exit.Stopped Stop.Recursion)) st s
 evaluated_out = record { went = record { by = here } }
 
 -- a settled expression is evaluated
-pub evaluated_deep : {S : Type 0} {step : Step S} {set : Setting} {e : Tree} {s z : S} {st st' : State} {r : Result Tree Halt} (m : ℕ) → 0 < m →
+pub evaluated_deep : {S : Type 0} {step : Step S} {set : Setting} {e : Tree} {s z : S} {st st' : State} {r : Result Tree Exit} (m : ℕ) → 0 < m →
     Settled step set (m - 1) set.limits.iteration e s st r st' z → Evaluated step set m e s st r st' z
 evaluated_deep zero h a = absurd (omega arith)
 evaluated_deep {step = step} {set = set} {e = e} {s = s} {z = z} {st = st} {st' = st'} {r = r} (suc m) h a =

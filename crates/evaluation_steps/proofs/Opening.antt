@@ -7,7 +7,7 @@ use Rattle.semantics.specs.Play.{Setting, State, End, Play, Over, run, eval_at}
 use Rattle.semantics.specs.Opened.{Still, Orderly, ended, called as call_in_order}
 use Rattle.semantics.proofs.Opened.{open_in, run-orderly, eval_at-orderly}
 use Rattle.expr_tree.specs.declared.limits.Stop.{Stop}
-use Rattle.evaluation_steps.specs.declared.Halt.{Halt}
+use Rattle.evaluation_steps.specs.declared.Exit.{Exit}
 use Rattle.evaluation_steps.specs.Leads.{Step, Leads, here, called}
 use Rattle.evaluation_steps.specs.Words.{Evaluated, Ran}
 use Rattle.evaluation_steps.specs.Knows.{Knows, Agrees}
@@ -34,23 +34,31 @@ module _ {S : Type 0} {step : Step S} {is_open : S → Bool} (knows : Knows step
       leads_open l (subst (λ x. Orderly a x (k r d)) (sym (knows.by s m st.definitions d c r one)) (f r d))
 
   -- an expression that was evaluated
-  pub evaluated_open : {set : Setting} {n : ℕ} {e : Tree} {s z : S} {st st' : State} {r : Result Tree Halt} → open_in st ≡ is_open s → Evaluated step set n e s st r st' z → Agrees r st' (is_open z)
+  pub evaluated_open : {set : Setting} {n : ℕ} {e : Tree} {s z : S} {st st' : State} {r : Result Tree Exit} → open_in st ≡ is_open s → Evaluated step set n e s st r st' z → Agrees r st' (is_open z)
   evaluated_open {set = set} {n = n} {e = e} {s = s} {st = st} {r = Ok v} is a = record { by = at_end (leads_open a.went.by (begins set n e st (is_open s) is)) }
-  evaluated_open {set = set} {n = n} {e = e} {s = s} {st = st} {r = Err (Halt.Stopped c)} is a =
+  evaluated_open {set = set} {n = n} {e = e} {s = s} {st = st} {r = Err (Exit.Stopped c)} is a =
       record { by = at_end (leads_open a.went.by (begins set n e st (is_open s) is)) }
-  evaluated_open {set = set} {n = n} {e = e} {s = s} {st = st} {r = Err Halt.Quit} is a =
+  evaluated_open {set = set} {n = n} {e = e} {s = s} {st = st} {r = Err (Exit.Throwing v)} is a =
       record { by = at_end (leads_open a.went.by (begins set n e st (is_open s) is)) }
-  evaluated_open {set = set} {n = n} {e = e} {s = s} {st = st} {r = Err Halt.Closed} is a =
+  evaluated_open {set = set} {n = n} {e = e} {s = s} {st = st} {r = Err (Exit.Thrown v)} is a =
       record { by = at_end (leads_open a.went.by (begins set n e st (is_open s) is)) }
-  evaluated_open {r = Err Halt.NoMemory} is a = record { by = tt }
+  evaluated_open {set = set} {n = n} {e = e} {s = s} {st = st} {r = Err Exit.Quit} is a =
+      record { by = at_end (leads_open a.went.by (begins set n e st (is_open s) is)) }
+  evaluated_open {set = set} {n = n} {e = e} {s = s} {st = st} {r = Err Exit.Closed} is a =
+      record { by = at_end (leads_open a.went.by (begins set n e st (is_open s) is)) }
+  evaluated_open {r = Err Exit.NoMemory} is a = record { by = tt }
 
-  -- the body of a section that gave a value, or stopped, is inside it still: Leave may come
+  -- the body of a section that gave a value, stopped or threw is inside it still: Leave may come
   pub body_value_open : {set : Setting} {n : ℕ} {e v : Tree} {s z : S} {st st' : State} → open_in st ≡ true → is_open s ≡ true → Evaluated step set n e s st (Ok v) st' z → is_open z ≡ true
   body_value_open {set = set} {n = n} {e = e} {s = s} {st = st} is now a =
       still_at_end (leads_open {a = true} a.went.by (begins_inside set n e st (is_open s) is now))
 
-  pub body_stop_open : {set : Setting} {n : ℕ} {e : Tree} {c : Stop} {s z : S} {st st' : State} → open_in st ≡ true → is_open s ≡ true → Evaluated step set n e s st (Err (Halt.Stopped c)) st' z → is_open z ≡ true
+  pub body_stop_open : {set : Setting} {n : ℕ} {e : Tree} {c : Stop} {s z : S} {st st' : State} → open_in st ≡ true → is_open s ≡ true → Evaluated step set n e s st (Err (Exit.Stopped c)) st' z → is_open z ≡ true
   body_stop_open {set = set} {n = n} {e = e} {s = s} {st = st} is now a =
+      still_at_end (leads_open {a = true} a.went.by (begins_inside set n e st (is_open s) is now))
+
+  pub body_throw_open : {set : Setting} {n : ℕ} {e v : Tree} {s z : S} {st st' : State} → open_in st ≡ true → is_open s ≡ true → Evaluated step set n e s st (Err (Exit.Thrown v)) st' z → is_open z ≡ true
+  body_throw_open {set = set} {n = n} {e = e} {s = s} {st = st} is now a =
       still_at_end (leads_open {a = true} a.went.by (begins_inside set n e st (is_open s) is now))
 
   -- a part of a program that came to its value

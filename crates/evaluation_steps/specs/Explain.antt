@@ -6,10 +6,10 @@ use Rattle.std.specs.Prelude.{◌≡◌, List, [], ◌∷◌, ◌++◌, Result, 
 use Rattle.expr_tree.specs.Tree.{Tree}
 use Rattle.semantics.specs.Definitions.{Definitions}
 use Rattle.semantics.specs.Program.{Call}
-use Rattle.semantics.specs.Play.{Setting, State, End, Value, Stopped, Quit, Closed, Reply, begun}
+use Rattle.semantics.specs.Play.{Setting, State, End, Value, Stopped, Throwing, Thrown, Quit, Closed, Reply, begun}
 use Rattle.semantics.specs.Eval.{Event, Evaluation, Ended, Needs, Wrong, eval}
 use Rattle.evaluation_steps.specs.Words.{Evaluated}
-use Rattle.evaluation_steps.specs.declared.Halt.{Halt}
+use Rattle.evaluation_steps.specs.declared.Exit.{Exit}
 
 -- The list comes after the list `before`. The evaluation over what comes before an event needs its call; the step is made from the definitions there
 abbrev pub Explain : {S : Type 0} → (S → Definitions → Call → Reply → Definitions → S → Type 0) → (List Event → Evaluation) → S → List Event → List Event → S → Type 0
@@ -26,15 +26,17 @@ pub record EndsAs (v : Evaluation) (o : End) (st : State) : Type 0 where
   pub rest : v.rest ≡ []
 
 -- with want of memory, that the list is no wrong one
-abbrev pub Told : Evaluation → Result Tree Halt → State → Type 0
+abbrev pub Told : Evaluation → Result Tree Exit → State → Type 0
 Told v (Ok e) st = EndsAs v (Value e) st
-Told v (Err (Halt.Stopped c)) st = EndsAs v (Stopped c) st
-Told v (Err Halt.Quit) st = EndsAs v Quit st
-Told v (Err Halt.Closed) st = EndsAs v Closed st
-Told v (Err Halt.NoMemory) st = v.outcome ≡ Wrong → ⊥
+Told v (Err (Exit.Stopped c)) st = EndsAs v (Stopped c) st
+Told v (Err (Exit.Throwing e)) st = EndsAs v (Throwing e) st
+Told v (Err (Exit.Thrown e)) st = EndsAs v (Thrown e) st
+Told v (Err Exit.Quit) st = EndsAs v Quit st
+Told v (Err Exit.Closed) st = EndsAs v Closed st
+Told v (Err Exit.NoMemory) st = v.outcome ≡ Wrong → ⊥
 
 abbrev pub Explained : {S : Type 0} → (S → Definitions → Call → Reply → Definitions → S → Type 0) → Type 0
 Explained {S = S} step =
-    (set : Setting) (d : Definitions) (e : Tree) (s z : S) (r : Result Tree Halt) (st : State)
+    (set : Setting) (d : Definitions) (e : Tree) (s z : S) (r : Result Tree Exit) (st : State)
     → Evaluated step set set.limits.recursion e s (begun d) r st z
     → (events : List Event) × Explain step (eval set d e) s [] events z × Told (eval set d e events) r st

@@ -1,12 +1,18 @@
 -- Steps of the outside lead from one point of an evaluation to a later one.
 --     Step          what a step of the outside is
+--     exit_of       what a halt is to the evaluation
 --     Leads         from a state of the outside and a play to a later state and what is left of the play
 --     Went          the same up to a result
 use Rattle.std.specs.Prelude.{Result, Ok, Err}
 use Rattle.semantics.specs.Definitions.{Definitions}
 use Rattle.semantics.specs.Program.{Call}
-use Rattle.semantics.specs.Play.{State, Reply, Play, Over, Calls, Stopped, Quit, Closed}
+use Rattle.semantics.specs.Play.{State, Reply, Play, Over, Calls, Stopped, Throwing, Thrown, Quit, Closed}
+use Rattle.evaluation_steps.specs.declared.Exit.{Exit}
 use Rattle.evaluation_steps.specs.declared.Halt.{Halt}
+
+abbrev pub exit_of : Halt → Exit
+exit_of (Halt.Stopped c) = Exit.Stopped c
+exit_of Halt.NoMemory = Exit.NoMemory
 
 abbrev pub Step : Type 0 → Type 1
 Step S = S → Definitions → Call → Reply → Definitions → S → Type 0
@@ -18,12 +24,14 @@ pub data Leads {S : Type 0} (step : S → Definitions → Call → Reply → Def
 
 -- The evaluation came from t at s to this result: k of the value is left, or all is over.
 -- With want of memory it stands somewhere.
-abbrev pub Came : {S A : Type 0} → Step S → S → Play → Result A Halt → (A → Play) → State → S → Type 0
+abbrev pub Came : {S A : Type 0} → Step S → S → Play → Result A Exit → (A → Play) → State → S → Type 0
 Came step s t (Ok v) k st z = Leads step s t (k v) z
-Came step s t (Err (Halt.Stopped c)) k st z = Leads step s t (Over (Stopped c) st) z
-Came step s t (Err Halt.Quit) k st z = Leads step s t (Over Quit st) z
-Came step s t (Err Halt.Closed) k st z = Leads step s t (Over Closed st) z
-Came step s t (Err Halt.NoMemory) k st z = (u : Play) × Leads step s t u z
+Came step s t (Err (Exit.Stopped c)) k st z = Leads step s t (Over (Stopped c) st) z
+Came step s t (Err (Exit.Throwing v)) k st z = Leads step s t (Over (Throwing v) st) z
+Came step s t (Err (Exit.Thrown v)) k st z = Leads step s t (Over (Thrown v) st) z
+Came step s t (Err Exit.Quit) k st z = Leads step s t (Over Quit st) z
+Came step s t (Err Exit.Closed) k st z = Leads step s t (Over Closed st) z
+Came step s t (Err Exit.NoMemory) k st z = (u : Play) × Leads step s t u z
 
-pub record Went {S A : Type 0} (step : Step S) (s : S) (t : Play) (r : Result A Halt) (k : A → Play) (st : State) (z : S) : Type 0 where
+pub record Went {S A : Type 0} (step : Step S) (s : S) (t : Play) (r : Result A Exit) (k : A → Play) (st : State) (z : S) : Type 0 where
   pub by : Came step s t r k st z

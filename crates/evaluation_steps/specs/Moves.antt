@@ -45,8 +45,6 @@ pub data HasStopped (limits : Limits) : Prog → Stop → Type 0 where
 abbrev pub MovedBy : Limits → Prog → Result Move Halt → (Option Tree → Prog) → Type 0
 MovedBy limits p (Ok m) rest = Shows limits p (headed m rest)
 MovedBy limits p (Err (Halt.Stopped c)) rest = HasStopped limits p c
-MovedBy limits p (Err Halt.Quit) rest = ⊥
-MovedBy limits p (Err Halt.Closed) rest = ⊥
 MovedBy limits p (Err Halt.NoMemory) rest = Unit {0}
 
 -- the move is the head of p, and rest the program after it
@@ -69,8 +67,6 @@ tried Fails rest k = k None
 abbrev pub TriedBy : Limits → ((Option Tree → Prog) → Prog) → Result Try Halt → (Option Tree → (Option Tree → Prog) → Prog) → Type 0
 TriedBy limits p (Ok t) rest = (k : Option Tree → Prog) → Shows limits (p k) (tried t rest k)
 TriedBy limits p (Err (Halt.Stopped c)) rest = (k : Option Tree → Prog) → HasStopped limits (p k) c
-TriedBy limits p (Err Halt.Quit) rest = ⊥
-TriedBy limits p (Err Halt.Closed) rest = ⊥
 TriedBy limits p (Err Halt.NoMemory) rest = Unit {0}
 
 pub record Tried (limits : Limits) (p : (Option Tree → Prog) → Prog) (r : Result Try Halt) (rest : Option Tree → (Option Tree → Prog) → Prog) : Type 0 where

@@ -14,8 +14,6 @@ pub record AreBounded (limits : Limits) : Type 0 where
 
 abbrev pub HaltsBy : Limits → Tree → Halt → Type 0
 HaltsBy limits e (Halt.Stopped c) = too_large limits e ≡ Some c
-HaltsBy limits e Halt.Quit = ⊥
-HaltsBy limits e Halt.Closed = ⊥
 HaltsBy limits e Halt.NoMemory = Unit {0}
 
 pub record HaltsFor (limits : Limits) (e : Tree) (h : Halt) : Type 0 where

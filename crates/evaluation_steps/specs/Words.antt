@@ -7,46 +7,49 @@
 use Rattle.std.specs.Prelude.{◌≡◌, ℕ, ◌<◌, ◌≤◌, ◌+◌, Bool, true, false, Option, Some, None, Result, Ok, Err}
 use Rattle.expr_tree.specs.Tree.{Tree}
 use Rattle.semantics.specs.Definitions.{Definitions}
-use Rattle.semantics.specs.Program.{Prog, Done, Stops, Quits, Call}
+use Rattle.semantics.specs.Program.{Prog, Done, Stops, Quits, Throws, Call}
 use Rattle.expr_tree.specs.declared.limits.Stop.{Stop}
 use Rattle.expr_tree.specs.declared.limits.Limits.{Limits}
 use Rattle.semantics.specs.Play.{Setting, State, Play, Over, Value, run, passes, eval_at, calling, too_large, after_number, last_number}
 use Rattle.evaluation_steps.specs.Leads.{Step, Leads, Went}
+use Rattle.evaluation_steps.specs.declared.Exit.{Exit}
 use Rattle.evaluation_steps.specs.declared.Halt.{Halt}
 
-pub record Evaluated {S : Type 0} (step : Step S) (set : Setting) (n : ℕ) (e : Tree) (s : S) (st : State) (r : Result Tree Halt) (st' : State) (z : S) : Type 0 where
+pub record Evaluated {S : Type 0} (step : Step S) (set : Setting) (n : ℕ) (e : Tree) (s : S) (st : State) (r : Result Tree Exit) (st' : State) (z : S) : Type 0 where
   pub went : Went step s (eval_at set n e st) r (λ v. Over (Value v) st') st' z
 
-pub record Settled {S : Type 0} (step : Step S) (set : Setting) (n left : ℕ) (e : Tree) (s : S) (st : State) (r : Result Tree Halt) (st' : State) (z : S) : Type 0 where
+pub record Settled {S : Type 0} (step : Step S) (set : Setting) (n left : ℕ) (e : Tree) (s : S) (st : State) (r : Result Tree Exit) (st' : State) (z : S) : Type 0 where
   pub went : Went step s (passes set (eval_at set n) left e st) r (λ v. Over (Value v) st') st' z
 
-pub record Played {S : Type 0} (step : Step S) (set : Setting) (n : ℕ) (p : Prog) (s : S) (st : State) (r : Result Tree Halt) (st' : State) (z : S) : Type 0 where
+pub record Played {S : Type 0} (step : Step S) (set : Setting) (n : ℕ) (p : Prog) (s : S) (st : State) (r : Result Tree Exit) (st' : State) (z : S) : Type 0 where
   pub went : Went step s (run set (eval_at set n) p st) r (λ v. Over (Value v) st') st' z
 
 pub record Reached {S : Type 0} (step : Step S) (set : Setting) (n : ℕ) (p : Prog) (s : S) (st : State) (q : Prog) (st' : State) (z : S) : Type 0 where
   pub on : Leads step s (run set (eval_at set n) p st) (run set (eval_at set n) q st') z
 
 -- k is what stands after the part
-pub record Ran {S A : Type 0} (step : Step S) (set : Setting) (n : ℕ) (p : (A → Prog) → Prog) (s : S) (st : State) (r : Result A Halt) (st' : State) (z : S) : Type 0 where
+pub record Ran {S A : Type 0} (step : Step S) (set : Setting) (n : ℕ) (p : (A → Prog) → Prog) (s : S) (st : State) (r : Result A Exit) (st' : State) (z : S) : Type 0 where
   pub went : (k : A → Prog) → Went step s (run set (eval_at set n) (p k) st) r (λ v. run set (eval_at set n) (k v) st') st' z
 
 pub record Led {S A : Type 0} (step : Step S) (set : Setting) (n : ℕ) (p : (A → Prog) → Prog) (s : S) (st : State) (q : (A → Prog) → Prog) (st' : State) (z : S) : Type 0 where
   pub on : (k : A → Prog) → Reached step set n (p k) s st (q k) st' z
 
-pub record Called {S : Type 0} (step : Step S) (c : Call) (s : S) (st : State) (r : Result Tree Halt) (st' : State) (z : S) : Type 0 where
+pub record Called {S : Type 0} (step : Step S) (c : Call) (s : S) (st : State) (r : Result Tree Exit) (st' : State) (z : S) : Type 0 where
   pub went : (k : Tree → State → Play) → Went step s (calling c st k) r (λ v. k v st') st' z
 
 -- ---- what asks nothing
 
-abbrev pub Given : Prog → Result Tree Halt → Type 0
+abbrev pub Given : Prog → Result Tree Exit → Type 0
 Given p (Ok v) = p ≡ Done v
-Given p (Err (Halt.Stopped c)) = p ≡ Stops c
-Given p (Err Halt.Quit) = p ≡ Quits
-Given p (Err Halt.Closed) = ⊥
-Given p (Err Halt.NoMemory) = Unit {0}
+Given p (Err (Exit.Stopped c)) = p ≡ Stops c
+Given p (Err (Exit.Throwing v)) = p ≡ Throws v
+Given p (Err (Exit.Thrown v)) = ⊥
+Given p (Err Exit.Quit) = p ≡ Quits
+Given p (Err Exit.Closed) = ⊥
+Given p (Err Exit.NoMemory) = Unit {0}
 
 -- the program has its end
-pub record Gives (p : Prog) (r : Result Tree Halt) : Type 0 where
+pub record Gives (p : Prog) (r : Result Tree Exit) : Type 0 where
   pub by : Given p r
 
 abbrev pub Tallied : Bool → ℕ → ℕ → Result (Unit {0}) Halt → ℕ → Type 0

@@ -1,25 +1,37 @@
 //! The words in which the code of an evaluator speaks of the definition, and the laws by which such contracts are put together: that
 //! a call or a step leads from one program to another, what an evaluation told, and which stop an expression makes that is too large
-//! or too deep. It has the types `Halt`, why an evaluation has no value, and `Outside`, and stands on `semantics`.
+//! or too deep. It has the types `Halt`, why a piece of work has no result, `Exit`, how an evaluation ends without a value, and
+//! `Outside`, and stands on `semantics`.
 #![tactic(auto)]
 
 ghost use Rattle.std.specs.Prelude.{◌≡◌};
 ghost use Rattle.semantics.specs.Definitions.{Definitions};
 ghost use Rattle.semantics.specs.Program.{Call};
 ghost use Rattle.semantics.specs.Play.{Reply};
+ghost use Rattle.evaluation_steps.specs.declared.Exit.{Exit};
 ghost use Rattle.evaluation_steps.specs.declared.Halt.{Halt};
 ghost use Rattle.evaluation_steps.specs.Explain.{Explained};
 
 mod stops;
 
-use expr_tree::Stop;
+use expr_tree::{Expr, Stop};
 use std::alloc::AllocError;
 pub use stops::{checked, fits, stop_for};
 
-/// Why an evaluation has no value.
+/// Why a piece of work of an evaluation has no result.
 #[derive(Clone, Copy)]
 pub enum Halt {
     Stopped(Stop),
+    NoMemory,
+}
+
+/// How an evaluation ends without a value.
+#[derive(Drop)]
+pub enum Exit {
+    Stopped(Stop),
+    /// A pass throws a value, which its evaluation judges before it ends with `Thrown`.
+    Throwing(Expr),
+    Thrown(Expr),
     Quit,
     Closed,
     NoMemory,
@@ -30,6 +42,27 @@ impl From<AllocError> for Halt {
 
     fn from(_error: AllocError) -> Halt {
         Halt::NoMemory
+    }
+}
+
+impl From<Halt> for Exit {
+    ghost use Rattle.evaluation_steps.specs.Leads.{exit_of};
+
+    ghost from_gives = { λ h x. x ≡ exit_of h };
+
+    fn from(halt: Halt) -> Exit {
+        match halt {
+            Halt::Stopped(stop) => Exit::Stopped(stop),
+            Halt::NoMemory => Exit::NoMemory,
+        }
+    }
+}
+
+impl From<AllocError> for Exit {
+    ghost from_gives = { λ _ x. x ≡ Exit.NoMemory };
+
+    fn from(_error: AllocError) -> Exit {
+        Exit::NoMemory
     }
 }
 

@@ -5,4 +5,4 @@ mod lists;
 mod symbols;
 
 pub use lists::{TOO_MANY, copies, nodes_of_all, one, two, value_copied};
-pub use symbols::{differ, is_among};
+pub use symbols::{differ, is_among, symbols_in};

@@ -1,9 +1,11 @@
 //! Lists of symbols.
-ghost use Rattle.std.specs.Prelude.{◌≡◌};
+ghost use Rattle.std.specs.Prelude.{◌≡◌, IfOk};
 ghost use Rattle.expr_tree.specs.Substitution.{among};
 ghost use Rattle.semantics.specs.Scoping as s;
 
-use expr_tree::Sym;
+use expr_tree::{Expr, Node, Sym, Syms};
+use item_list::Items;
+use std::alloc::{AllocError, Global};
 
 /// Whether a symbol is one of these.
 pub fn is_among(symbol: Sym, symbols: &[Sym]) -> bool
@@ -27,4 +29,19 @@ pub fn differ(symbols: &[Sym]) -> bool
         }
     }
     true
+}
+
+/// The symbols that some expressions are, where all are symbols.
+#[tactic(auto, using(crate::proofs::SymbolLists::symbol_steps))]
+pub fn symbols_in(alloc: Global, items: &[Expr]) -> Result<Option<Syms>, AllocError>
+    ensures { IfOk result (λ r. r ≡ s.symbols_in items.now) }
+{
+    let mut symbols = Items::new(alloc);
+    for item in items {
+        match item.node() {
+            Node::Symbol(symbol) => symbols.push(*symbol)?,
+            _ => return Ok(None),
+        }
+    }
+    Ok(Some(symbols))
 }

@@ -8,8 +8,8 @@ use Rattle.evaluation_steps.specs.declared.Halt.{Halt}
 use Rattle.evaluation_steps.specs.Moves.{Move, Moved, headed, Shows, same, fitting, HasStopped, stop, large}
 use Rattle.semantics.specs.Play.{too_large}
 use Rattle.evaluation_steps.specs.Stopping.{HaltsFor}
-use Rattle.frames_control.specs.declared.moves.Move.{Move as Answer}
-use Rattle.frames_control.specs.Moving.{IfAsks}
+use Rattle.frames_control.specs.declared.moves.ControlMove.{ControlMove as Answer}
+use Rattle.frames_control.specs.ControlMoves.{IfAsks}
 
 pub shown : {move : Move} {limits : Limits} {p : Prog} {rest : Option Tree → Prog} → p ≡ headed move rest → Moved limits p (Ok move) rest
 shown {move = move} {limits = limits} {rest = rest} e = record { by = subst (λ q. Shows limits q (headed move rest)) (sym e) same }
@@ -26,8 +26,6 @@ stops {c = c} {limits = limits} e = record { by = subst (λ q. HasStopped limits
 -- what is too large halts, and so does want of memory
 pub halts : (e : Tree) (q : Prog) (h : Halt) {limits : Limits} {rest : Option Tree → Prog} → HaltsFor limits e h → Moved limits (Check e q) (Err h) rest
 halts e q (Halt.Stopped c) f = record { by = large f.by }
-halts e q Halt.Quit f = absurd f.by
-halts e q Halt.Closed f = absurd f.by
 halts e q Halt.NoMemory f = record { by = tt }
 
 -- a step that asks

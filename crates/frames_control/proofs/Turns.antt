@@ -13,7 +13,7 @@ use Rattle.evaluation_steps.specs.Moves.{Move, Moved}
 use Rattle.frames_control.specs.declared.fixed_point.FixedPoint.{FixedPoint}
 use Rattle.frames_control.specs.declared.select.Select.{Select}
 use Rattle.frames_control.specs.declared.while_loop.While.{While}
-use Rattle.frames_control.specs.Turning.{left_fixed_point, left_select, but_last, without_last, left_while, tested}
+use Rattle.frames_control.specs.TurnForms.{left_fixed_point, left_select, but_last, without_last, left_while, tested}
 
 pub moved_as : {limits : Limits} {p q : Prog} {r : Result Move Halt} {rest : Option Tree → Prog} → p ≡ q → Moved limits q r rest → Moved limits p r rest
 moved_as {limits = limits} {r = r} {rest = rest} e m = subst (λ x. Moved limits x r rest) (sym e) m

@@ -1,5 +1,5 @@
-pub mod Turns
-pub mod Moving
+pub mod Countdowns
+pub mod ControlMoves
 pub mod Choices
-pub mod Turning
-pub mod Frames
+pub mod TurnForms
+pub mod ControlLeft

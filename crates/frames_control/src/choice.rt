@@ -3,18 +3,17 @@ ghost use Rattle.std.specs.Prelude.{◌≡◌, ◌<◌, Some, IfOk};
 ghost use Rattle.semantics.specs.Program.{Prog};
 ghost use Rattle.semantics.specs.Control.{conditional};
 ghost use Rattle.evaluation_steps.specs.Moves.{Moved};
-ghost use Rattle.builtin_names.specs.Named.{HasBuiltins, names_in};
-ghost use Rattle.frames_control.specs.Frames.{left};
-ghost use Rattle.frames_control.specs.declared.frame.Frame.{Frame as F};
-ghost use Rattle.frames_control.specs.Moving.{moving, IfAsks, Starts};
+ghost use Rattle.builtin_names.specs.Named.{names_in};
+ghost use Rattle.frames_control.specs.ControlLeft.{left};
+ghost use Rattle.frames_control.specs.declared.control.Control.{Control as F};
+ghost use Rattle.frames_control.specs.ControlMoves.{moving, IfAsks, Starts};
 ghost use Rattle.frames_control.specs.Choices.{left_chosen};
 
-use crate::frame::Frame;
-use crate::moves::Move;
-use builtin_names::{is_name, name};
+use crate::control::Control;
+use crate::moves::ControlMove;
+use builtin_names::{Vocabulary, is_name, name};
 use evaluation_steps::Halt;
 use expr_tree::{Expr, Limits};
-use name_table::Names;
 use semantics::Builtin;
 use std::alloc::{AllocError, Global};
 
@@ -26,8 +25,11 @@ pub struct Chosen {
 
 impl Chosen {
     /// If.
-    pub fn start(alloc: Global, names: &Names, items: &[Expr]) -> Result<Option<Frame>, AllocError>
-        requires names { HasBuiltins names.now }
+    pub fn start(
+        alloc: Global,
+        names: &Vocabulary,
+        items: &[Expr],
+    ) -> Result<Option<Control>, AllocError>
         ensures { (stay : Prog) → Starts (left (names_in names.now)) (conditional (names_in names.now) stay items.now) stay result }
     {
         if items.len() < 2 || 4 < items.len() {
@@ -38,7 +40,7 @@ impl Chosen {
         }
         if is_name(names, Builtin::False, &items[0]) {
             if items.len() == 2 {
-                return Ok(Some(Frame::Chosen(Chosen {
+                return Ok(Some(Control::Chosen(Chosen {
                     value: name(names, Builtin::Null),
                 })));
             }
@@ -50,10 +52,10 @@ impl Chosen {
         Ok(None)
     }
 
-    fn of(alloc: Global, value: &Expr) -> Result<Option<Frame>, AllocError>
+    fn of(alloc: Global, value: &Expr) -> Result<Option<Control>, AllocError>
         ensures { IfOk result (λ o. o ≡ Some (F.Chosen (record { value = value.now }))) }
     {
-        Ok(Some(Frame::Chosen(Chosen {
+        Ok(Some(Control::Chosen(Chosen {
             value: value.copy(alloc)?,
         })))
     }
@@ -64,10 +66,10 @@ impl Chosen {
         alloc: Global,
         limits: &Limits,
         answer: Option<Expr>,
-    ) -> Result<Move, Halt>
+    ) -> Result<ControlMove, Halt>
         ensures moved { Moved limits.now (left_chosen self.old answer) (moving result) (left_chosen self.new) }
         ensures falls { IfAsks result (0 < 0) }
     {
-        Ok(Move::Done(self.value.copy(alloc)?))
+        Ok(ControlMove::Done(self.value.copy(alloc)?))
     }
 }

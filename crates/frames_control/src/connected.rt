@@ -3,18 +3,17 @@ ghost use Rattle.std.specs.Prelude.{◌≡◌, ◌<◌, ◌∷◌, [], length, N
 ghost use Rattle.semantics.specs.Program.{Prog};
 ghost use Rattle.semantics.specs.Control.{connected};
 ghost use Rattle.evaluation_steps.specs.Moves.{Moved};
-ghost use Rattle.builtin_names.specs.Named.{HasBuiltins, names_in};
-ghost use Rattle.frames_control.specs.Frames.{left};
-ghost use Rattle.frames_control.specs.Moving.{moving, IfAsks, Starts};
+ghost use Rattle.builtin_names.specs.Named.{names_in};
+ghost use Rattle.frames_control.specs.ControlLeft.{left};
+ghost use Rattle.frames_control.specs.ControlMoves.{moving, IfAsks, Starts};
 ghost use Rattle.frames_control.specs.Choices.{left_connected, row_of, ending_of, going_of};
 
-use crate::frame::Frame;
-use crate::moves::Move;
+use crate::control::Control;
+use crate::moves::ControlMove;
 use crate::stack::Stack;
-use builtin_names::{is_name, name};
+use builtin_names::{Vocabulary, is_name, name};
 use evaluation_steps::Halt;
 use expr_tree::{Expr, Limits};
-use name_table::Names;
 use semantics::Builtin;
 use std::alloc::{AllocError, Global};
 
@@ -67,14 +66,14 @@ pub struct Connected {
 impl Connected {
     pub fn start(
         alloc: Global,
-        names: &Names,
+        names: &Vocabulary,
         connective: Connective,
         items: &[Expr],
-    ) -> Result<Option<Frame>, AllocError>
+    ) -> Result<Option<Control>, AllocError>
         ensures { (stay : Prog) → Starts (left (names_in names.now))
             (connected (names_in names.now) (row_of connective) (going_of connective) (ending_of connective) items.now []) stay result }
     {
-        Ok(Some(Frame::Connected(Connected {
+        Ok(Some(Control::Connected(Connected {
             connective,
             rest: Stack::of(alloc, items)?,
             kept: Stack::new(alloc),
@@ -82,32 +81,40 @@ impl Connected {
     }
 
     /// The result where no element is left: one value that was kept, or all of them.
-    fn finish(&mut self, alloc: Global, names: &Names, limits: &Limits) -> Result<Move, Halt>
-        requires names { HasBuiltins names.now }
+    fn finish(
+        &mut self,
+        alloc: Global,
+        names: &Vocabulary,
+        limits: &Limits,
+    ) -> Result<ControlMove, Halt>
         requires at_end { self.old.rest ≡ [] }
         ensures moved { Moved limits.now (left_connected (names_in names.now) self.old None) (moving result) (left_connected (names_in names.now) self.new) }
         ensures falls { IfAsks result (length self.new.rest < length self.old.rest) }
     {
         let Some(last) = self.kept.pop() else {
-            return Ok(Move::Done(name(names, self.connective.going())));
+            return Ok(ControlMove::Done(name(names, self.connective.going())));
         };
         if self.kept.is_empty() {
-            return Ok(Move::Done(last));
+            return Ok(ControlMove::Done(last));
         }
         self.kept.push(last)?;
-        Ok(Move::Build(
+        Ok(ControlMove::Build(
             name(names, self.connective.row()),
             self.kept.take_reversed(alloc),
         ))
     }
 
-    fn next_element(&mut self, alloc: Global, names: &Names, limits: &Limits) -> Result<Move, Halt>
-        requires names { HasBuiltins names.now }
+    fn next_element(
+        &mut self,
+        alloc: Global,
+        names: &Vocabulary,
+        limits: &Limits,
+    ) -> Result<ControlMove, Halt>
         ensures moved { Moved limits.now (left_connected (names_in names.now) self.old None) (moving result) (left_connected (names_in names.now) self.new) }
         ensures falls { IfAsks result (length self.new.rest < length self.old.rest) }
     {
         match self.rest.pop() {
-            Some(element) => Ok(Move::Ask(element, false)),
+            Some(element) => Ok(ControlMove::Ask(element, false)),
             None => self.finish(alloc, names, limits),
         }
     }
@@ -116,11 +123,10 @@ impl Connected {
     pub fn step(
         &mut self,
         alloc: Global,
-        names: &Names,
+        names: &Vocabulary,
         limits: &Limits,
         answer: Option<Expr>,
-    ) -> Result<Move, Halt>
-        requires names { HasBuiltins names.now }
+    ) -> Result<ControlMove, Halt>
         ensures moved { Moved limits.now (left_connected (names_in names.now) self.old answer) (moving result) (left_connected (names_in names.now) self.new) }
         ensures falls { IfAsks result (length self.new.rest < length self.old.rest) }
     {
@@ -128,7 +134,7 @@ impl Connected {
             return self.next_element(alloc, names, limits);
         };
         if is_name(names, self.connective.ending(), &value) {
-            return Ok(Move::Done(value));
+            return Ok(ControlMove::Done(value));
         }
         if is_name(names, self.connective.going(), &value) {
             return self.next_element(alloc, names, limits);

@@ -1,6 +1,6 @@
 //! Counting the turns of a loop down.
 ghost use Rattle.std.specs.Prelude.{◌≡◌};
-ghost use Rattle.frames_control.specs.Turns.{CountsDown, turns_in};
+ghost use Rattle.frames_control.specs.Countdowns.{CountsDown, turns_in};
 
 use expr_tree::{Expr, Node};
 use std::marker::Model;

@@ -5,17 +5,17 @@ ghost use Rattle.semantics.specs.Control.{fixed_point};
 ghost use Rattle.evaluation_steps.specs.Moves.{Moved};
 ghost use Rattle.evaluation_steps.specs.Stopping.{AreBounded};
 ghost use Rattle.builtin_names.specs.Named.{names_in};
-ghost use Rattle.frames_control.specs.Frames.{left};
-ghost use Rattle.frames_control.specs.Moving.{moving, IfAsks, Starts};
-ghost use Rattle.frames_control.specs.Turning.{left_fixed_point};
+ghost use Rattle.frames_control.specs.ControlLeft.{left};
+ghost use Rattle.frames_control.specs.ControlMoves.{moving, IfAsks, Starts};
+ghost use Rattle.frames_control.specs.TurnForms.{left_fixed_point};
 
+use crate::control::Control;
 use crate::countdown::{Countdown, MOST_TURNS};
-use crate::frame::Frame;
-use crate::moves::{Move, apply};
+use crate::moves::{ControlMove, apply};
+use builtin_names::Vocabulary;
 use evaluation_steps::Halt;
 use expr_lists::one;
 use expr_tree::{Expr, Limits, Stop};
-use name_table::Names;
 use std::alloc::{AllocError, Global};
 
 /// The function and the latest value.
@@ -27,20 +27,24 @@ pub struct FixedPoint {
 }
 
 impl FixedPoint {
-    pub fn start(alloc: Global, names: &Names, items: &[Expr]) -> Result<Option<Frame>, AllocError>
+    pub fn start(
+        alloc: Global,
+        names: &Vocabulary,
+        items: &[Expr],
+    ) -> Result<Option<Control>, AllocError>
         ensures { (stay : Prog) → Starts (left (names_in names.now)) (fixed_point stay items.now) stay result }
     {
         if items.len() != 2 {
             return Ok(None);
         }
-        Ok(Some(Frame::FixedPoint(FixedPoint {
+        Ok(Some(Control::FixedPoint(FixedPoint {
             function: items[0].copy(alloc)?,
             value: items[1].copy(alloc)?,
             turns: Countdown::from(MOST_TURNS),
         })))
     }
 
-    fn turn(&mut self, alloc: Global, limits: &Limits) -> Result<Move, Halt>
+    fn turn(&mut self, alloc: Global, limits: &Limits) -> Result<ControlMove, Halt>
         requires bounded { AreBounded limits.now }
         ensures moved { Moved limits.now (left_fixed_point self.old None) (moving result) (left_fixed_point self.new) }
         ensures falls { IfAsks result (self.new.turns < self.old.turns) }
@@ -57,7 +61,7 @@ impl FixedPoint {
         alloc: Global,
         limits: &Limits,
         answer: Option<Expr>,
-    ) -> Result<Move, Halt>
+    ) -> Result<ControlMove, Halt>
         requires bounded { AreBounded limits.now }
         ensures moved { Moved limits.now (left_fixed_point self.old answer) (moving result) (left_fixed_point self.new) }
         ensures falls { IfAsks result (self.new.turns < self.old.turns) }
@@ -66,7 +70,7 @@ impl FixedPoint {
             return self.turn(alloc, limits);
         };
         if value.equals(&self.value) {
-            return Ok(Move::Done(value));
+            return Ok(ControlMove::Done(value));
         }
         self.value = value;
         self.turn(alloc, limits)

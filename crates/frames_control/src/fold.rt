@@ -5,17 +5,17 @@ ghost use Rattle.semantics.specs.Control.{fold, folded};
 ghost use Rattle.evaluation_steps.specs.Moves.{Moved};
 ghost use Rattle.evaluation_steps.specs.Stopping.{AreBounded};
 ghost use Rattle.builtin_names.specs.Named.{names_in};
-ghost use Rattle.frames_control.specs.Frames.{left};
-ghost use Rattle.frames_control.specs.Moving.{moving, IfAsks, Starts};
-ghost use Rattle.frames_control.specs.Turning.{left_fold};
+ghost use Rattle.frames_control.specs.ControlLeft.{left};
+ghost use Rattle.frames_control.specs.ControlMoves.{moving, IfAsks, Starts};
+ghost use Rattle.frames_control.specs.TurnForms.{left_fold};
 
-use crate::frame::Frame;
-use crate::moves::{Move, apply};
+use crate::control::Control;
+use crate::moves::{ControlMove, apply};
 use crate::stack::Stack;
+use builtin_names::Vocabulary;
 use evaluation_steps::Halt;
 use expr_lists::two;
 use expr_tree::{Expr, Limits, Node};
-use name_table::Names;
 use std::alloc::{AllocError, Global};
 
 /// The function, the first value, and the elements that are left.
@@ -28,7 +28,11 @@ pub struct Fold {
 
 impl Fold {
     #[tactic(auto, using(expr_tree::proofs::Callers::tree_steps))]
-    pub fn start(alloc: Global, names: &Names, items: &[Expr]) -> Result<Option<Frame>, AllocError>
+    pub fn start(
+        alloc: Global,
+        names: &Vocabulary,
+        items: &[Expr],
+    ) -> Result<Option<Control>, AllocError>
         ensures { (stay : Prog) → Starts (left (names_in names.now)) (fold stay items.now) stay result }
     {
         if items.len() != 3 {
@@ -37,20 +41,20 @@ impl Fold {
         let Node::Normal(_, elements) = items[2].node() else {
             return Ok(None);
         };
-        Ok(Some(Frame::Fold(Fold {
+        Ok(Some(Control::Fold(Fold {
             function: items[0].copy(alloc)?,
             first: items[1].copy(alloc)?,
             rest: Stack::of(alloc, elements.as_slice())?,
         })))
     }
 
-    fn turn(&mut self, alloc: Global, limits: &Limits, value: Expr) -> Result<Move, Halt>
+    fn turn(&mut self, alloc: Global, limits: &Limits, value: Expr) -> Result<ControlMove, Halt>
         requires bounded { AreBounded limits.now }
         ensures moved { Moved limits.now (folded self.old.function value self.old.rest Done) (moving result) (left_fold self.new) }
         ensures falls { IfAsks result (length self.new.rest < length self.old.rest) }
     {
         match self.rest.pop() {
-            None => Ok(Move::Done(value)),
+            None => Ok(ControlMove::Done(value)),
             Some(element) => apply(alloc, limits, &self.function, two(alloc, value, element)?),
         }
     }
@@ -60,7 +64,7 @@ impl Fold {
         alloc: Global,
         limits: &Limits,
         answer: Option<Expr>,
-    ) -> Result<Move, Halt>
+    ) -> Result<ControlMove, Halt>
         requires bounded { AreBounded limits.now }
         ensures moved { Moved limits.now (left_fold self.old answer) (moving result) (left_fold self.new) }
         ensures falls { IfAsks result (length self.new.rest < length self.old.rest) }

@@ -3,18 +3,17 @@ ghost use Rattle.std.specs.Prelude.{◌<◌, length};
 ghost use Rattle.semantics.specs.Program.{Prog};
 ghost use Rattle.semantics.specs.Control.{in_turn};
 ghost use Rattle.evaluation_steps.specs.Moves.{Moved};
-ghost use Rattle.builtin_names.specs.Named.{HasBuiltins, names_in};
-ghost use Rattle.frames_control.specs.Frames.{left};
-ghost use Rattle.frames_control.specs.Moving.{moving, IfAsks, Starts};
+ghost use Rattle.builtin_names.specs.Named.{names_in};
+ghost use Rattle.frames_control.specs.ControlLeft.{left};
+ghost use Rattle.frames_control.specs.ControlMoves.{moving, IfAsks, Starts};
 ghost use Rattle.frames_control.specs.Choices.{left_in_turn};
 
-use crate::frame::Frame;
-use crate::moves::Move;
+use crate::control::Control;
+use crate::moves::ControlMove;
 use crate::stack::Stack;
-use builtin_names::name;
+use builtin_names::{Vocabulary, name};
 use evaluation_steps::Halt;
 use expr_tree::{Expr, Limits};
-use name_table::Names;
 use semantics::Builtin;
 use std::alloc::{AllocError, Global};
 
@@ -25,13 +24,17 @@ pub struct InTurn {
 }
 
 impl InTurn {
-    pub fn start(alloc: Global, names: &Names, items: &[Expr]) -> Result<Option<Frame>, AllocError>
+    pub fn start(
+        alloc: Global,
+        names: &Vocabulary,
+        items: &[Expr],
+    ) -> Result<Option<Control>, AllocError>
         ensures { (stay : Prog) → Starts (left (names_in names.now)) (in_turn stay items.now) stay result }
     {
         if items.is_empty() {
             return Ok(None);
         }
-        Ok(Some(Frame::InTurn(InTurn {
+        Ok(Some(Control::InTurn(InTurn {
             rest: Stack::of(alloc, items)?,
         })))
     }
@@ -39,19 +42,18 @@ impl InTurn {
     /// With no element left the answer is the value.
     pub fn step(
         &mut self,
-        names: &Names,
+        names: &Vocabulary,
         limits: &Limits,
         answer: Option<Expr>,
-    ) -> Result<Move, Halt>
-        requires names { HasBuiltins names.now }
+    ) -> Result<ControlMove, Halt>
         ensures moved { Moved limits.now (left_in_turn (names_in names.now) self.old answer) (moving result) (left_in_turn (names_in names.now) self.new) }
         ensures falls { IfAsks result (length self.new.rest < length self.old.rest) }
     {
         match self.rest.pop() {
-            Some(item) => Ok(Move::Ask(item, false)),
+            Some(item) => Ok(ControlMove::Ask(item, false)),
             None => match answer {
-                Some(value) => Ok(Move::Done(value)),
-                None => Ok(Move::Done(name(names, Builtin::Null))),
+                Some(value) => Ok(ControlMove::Done(value)),
+                None => Ok(ControlMove::Done(name(names, Builtin::Null))),
             },
         }
     }

@@ -5,11 +5,11 @@
 
 mod choice;
 mod connected;
+mod control;
 mod countdown;
 mod fixed_point;
 mod fold;
 mod fold_list;
-mod frame;
 mod in_turn;
 mod moves;
 mod nest;
@@ -23,13 +23,13 @@ mod while_loop;
 
 pub use choice::Chosen;
 pub use connected::{Connected, Connective};
+pub use control::{Control, ControlForm};
 pub use countdown::Countdown;
 pub use fixed_point::FixedPoint;
 pub use fold::Fold;
 pub use fold_list::FoldList;
-pub use frame::{Form, Frame};
 pub use in_turn::InTurn;
-pub use moves::{Local, Move};
+pub use moves::{ControlMove, Local};
 pub use nest::Nest;
 pub use nest_list::NestList;
 pub use select::Select;

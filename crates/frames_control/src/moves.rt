@@ -5,7 +5,7 @@ ghost use Rattle.semantics.specs.Program.{Prog};
 ghost use Rattle.semantics.specs.Control.{applied};
 ghost use Rattle.evaluation_steps.specs.Stopping.{AreBounded};
 ghost use Rattle.evaluation_steps.specs.Moves.{Moved};
-ghost use Rattle.frames_control.specs.Moving.{moving};
+ghost use Rattle.frames_control.specs.ControlMoves.{moving};
 
 use evaluation_steps::{Halt, checked};
 use expr_tree::{Expr, Exprs, Limits, Sym};
@@ -20,7 +20,7 @@ pub struct Local {
 
 /// What a machine does next. The truth value says that the question begins a turn.
 #[derive(Drop)]
-pub enum Move {
+pub enum ControlMove {
     /// Asks for the value of an expression, evaluated one deeper.
     Ask(Expr, bool),
     /// The same with the definition of a symbol put by, if there is one, and put back.
@@ -39,13 +39,13 @@ pub(crate) fn apply(
     limits: &Limits,
     function: &Expr,
     items: Exprs,
-) -> Result<Move, Halt>
+) -> Result<ControlMove, Halt>
     requires bounded { AreBounded limits.now }
     ensures { (rest : Option Tree → Prog) → Moved limits.now (applied function.now items (λ v. rest (Some v))) (moving result) rest }
 {
     let head = function.copy(alloc)?;
     match checked(alloc, limits, head, items) {
-        Ok(question) => Ok(Move::Ask(question, true)),
+        Ok(question) => Ok(ControlMove::Ask(question, true)),
         Err(halt) => Err(halt),
     }
 }

@@ -4,20 +4,19 @@ ghost use Rattle.semantics.specs.Program.{Prog};
 ghost use Rattle.semantics.specs.Control.{nest_list};
 ghost use Rattle.evaluation_steps.specs.Moves.{Moved};
 ghost use Rattle.evaluation_steps.specs.Stopping.{AreBounded};
-ghost use Rattle.builtin_names.specs.Named.{HasBuiltins, names_in};
-ghost use Rattle.frames_control.specs.Frames.{left};
-ghost use Rattle.frames_control.specs.Moving.{moving, IfAsks, Starts};
-ghost use Rattle.frames_control.specs.Turning.{left_nest_list, nests_list};
+ghost use Rattle.builtin_names.specs.Named.{names_in};
+ghost use Rattle.frames_control.specs.ControlLeft.{left};
+ghost use Rattle.frames_control.specs.ControlMoves.{moving, IfAsks, Starts};
+ghost use Rattle.frames_control.specs.TurnForms.{left_nest_list, nests_list};
 
+use crate::control::Control;
 use crate::countdown::{Countdown, turns_of};
-use crate::frame::Frame;
-use crate::moves::{Move, apply};
+use crate::moves::{ControlMove, apply};
 use crate::stack::Stack;
-use builtin_names::name;
+use builtin_names::{Vocabulary, name};
 use evaluation_steps::Halt;
 use expr_lists::one;
 use expr_tree::{Expr, Limits};
-use name_table::Names;
 use semantics::Builtin;
 use std::alloc::{AllocError, Global};
 
@@ -31,7 +30,11 @@ pub struct NestList {
 }
 
 impl NestList {
-    pub fn start(alloc: Global, names: &Names, items: &[Expr]) -> Result<Option<Frame>, AllocError>
+    pub fn start(
+        alloc: Global,
+        names: &Vocabulary,
+        items: &[Expr],
+    ) -> Result<Option<Control>, AllocError>
         ensures { (stay : Prog) → Starts (left (names_in names.now)) (nest_list (names_in names.now) stay items.now) stay result }
     {
         if items.len() != 3 {
@@ -40,7 +43,7 @@ impl NestList {
         let Some(turns) = turns_of(&items[2]) else {
             return Ok(None);
         };
-        Ok(Some(Frame::NestList(NestList {
+        Ok(Some(Control::NestList(NestList {
             function: items[0].copy(alloc)?,
             first: items[1].copy(alloc)?,
             turns,
@@ -51,18 +54,20 @@ impl NestList {
     fn turn(
         &mut self,
         alloc: Global,
-        names: &Names,
+        names: &Vocabulary,
         limits: &Limits,
         value: Expr,
-    ) -> Result<Move, Halt>
-        requires names { HasBuiltins names.now }
+    ) -> Result<ControlMove, Halt>
         requires bounded { AreBounded limits.now }
         ensures moved { Moved limits.now (nests_list (names_in names.now) self.old value) (moving result) (left_nest_list (names_in names.now) self.new) }
         ensures falls { IfAsks result (self.new.turns < self.old.turns) }
     {
         self.done.push(value.copy(alloc)?)?;
         if !self.turns.take() {
-            return Ok(Move::Build(name(names, Builtin::List), self.done.take_reversed(alloc)));
+            return Ok(ControlMove::Build(
+                name(names, Builtin::List),
+                self.done.take_reversed(alloc),
+            ));
         }
         apply(alloc, limits, &self.function, one(alloc, value)?)
     }
@@ -70,11 +75,10 @@ impl NestList {
     pub fn step(
         &mut self,
         alloc: Global,
-        names: &Names,
+        names: &Vocabulary,
         limits: &Limits,
         answer: Option<Expr>,
-    ) -> Result<Move, Halt>
-        requires names { HasBuiltins names.now }
+    ) -> Result<ControlMove, Halt>
         requires bounded { AreBounded limits.now }
         ensures moved { Moved limits.now (left_nest_list (names_in names.now) self.old answer) (moving result) (left_nest_list (names_in names.now) self.new) }
         ensures falls { IfAsks result (self.new.turns < self.old.turns) }

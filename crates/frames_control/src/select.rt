@@ -4,19 +4,18 @@ ghost use Rattle.semantics.specs.Program.{Prog};
 ghost use Rattle.semantics.specs.Control.{select};
 ghost use Rattle.evaluation_steps.specs.Moves.{Moved};
 ghost use Rattle.evaluation_steps.specs.Stopping.{AreBounded};
-ghost use Rattle.builtin_names.specs.Named.{HasBuiltins, names_in};
-ghost use Rattle.frames_control.specs.Frames.{left};
-ghost use Rattle.frames_control.specs.Moving.{moving, IfAsks, Starts};
-ghost use Rattle.frames_control.specs.Turning.{left_select, without_last};
+ghost use Rattle.builtin_names.specs.Named.{names_in};
+ghost use Rattle.frames_control.specs.ControlLeft.{left};
+ghost use Rattle.frames_control.specs.ControlMoves.{moving, IfAsks, Starts};
+ghost use Rattle.frames_control.specs.TurnForms.{left_select, without_last};
 
-use crate::frame::Frame;
-use crate::moves::{Move, apply};
+use crate::control::Control;
+use crate::moves::{ControlMove, apply};
 use crate::stack::Stack;
-use builtin_names::is_name;
+use builtin_names::{Vocabulary, is_name};
 use evaluation_steps::Halt;
 use expr_lists::one;
 use expr_tree::{Expr, Limits, Node};
-use name_table::Names;
 use semantics::Builtin;
 use std::alloc::{AllocError, Global};
 
@@ -32,7 +31,11 @@ pub struct Select {
 
 impl Select {
     #[tactic(auto, using(expr_tree::proofs::Callers::tree_steps))]
-    pub fn start(alloc: Global, names: &Names, items: &[Expr]) -> Result<Option<Frame>, AllocError>
+    pub fn start(
+        alloc: Global,
+        names: &Vocabulary,
+        items: &[Expr],
+    ) -> Result<Option<Control>, AllocError>
         ensures { (stay : Prog) → Starts (left (names_in names.now)) (select (names_in names.now) stay items.now) stay result }
     {
         if items.len() != 2 {
@@ -41,7 +44,7 @@ impl Select {
         let Node::Normal(head, elements) = items[0].node() else {
             return Ok(None);
         };
-        Ok(Some(Frame::Select(Select {
+        Ok(Some(Control::Select(Select {
             function: items[1].copy(alloc)?,
             head: head.copy(alloc)?,
             rest: Stack::of(alloc, elements.as_slice())?,
@@ -49,14 +52,19 @@ impl Select {
         })))
     }
 
-    fn turn(&mut self, alloc: Global, names: &Names, limits: &Limits) -> Result<Move, Halt>
+    fn turn(
+        &mut self,
+        alloc: Global,
+        names: &Vocabulary,
+        limits: &Limits,
+    ) -> Result<ControlMove, Halt>
         requires bounded { AreBounded limits.now }
         ensures moved { Moved limits.now (left_select (names_in names.now) self.old None) (moving result) (left_select (names_in names.now) self.new) }
         ensures falls { IfAsks result (length self.new.rest < length self.old.rest) }
     {
         let Some(element) = self.rest.pop() else {
             let head = self.head.copy(alloc)?;
-            return Ok(Move::Build(head, self.kept.take_reversed(alloc)));
+            return Ok(ControlMove::Build(head, self.kept.take_reversed(alloc)));
         };
         let kept = element.copy(alloc)?;
         self.kept.push(kept)?;
@@ -64,7 +72,12 @@ impl Select {
     }
 
     /// The element on trial is not kept.
-    fn reject(&mut self, alloc: Global, names: &Names, limits: &Limits) -> Result<Move, Halt>
+    fn reject(
+        &mut self,
+        alloc: Global,
+        names: &Vocabulary,
+        limits: &Limits,
+    ) -> Result<ControlMove, Halt>
         requires bounded { AreBounded limits.now }
         ensures moved { Moved limits.now (without_last (names_in names.now) self.old) (moving result) (left_select (names_in names.now) self.new) }
         ensures falls { IfAsks result (length self.new.rest < length self.old.rest) }
@@ -76,11 +89,10 @@ impl Select {
     pub fn step(
         &mut self,
         alloc: Global,
-        names: &Names,
+        names: &Vocabulary,
         limits: &Limits,
         answer: Option<Expr>,
-    ) -> Result<Move, Halt>
-        requires names { HasBuiltins names.now }
+    ) -> Result<ControlMove, Halt>
         requires bounded { AreBounded limits.now }
         ensures moved { Moved limits.now (left_select (names_in names.now) self.old answer) (moving result) (left_select (names_in names.now) self.new) }
         ensures falls { IfAsks result (length self.new.rest < length self.old.rest) }

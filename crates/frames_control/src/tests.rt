@@ -1,18 +1,14 @@
 ghost use Rattle.std.specs.Prelude.{IfOk};
-ghost use Rattle.builtin_names.specs.Named.{HasBuiltins};
 ghost use Rattle.evaluation_steps.specs.Stopping.{AreBounded};
 
-use crate::{Form, Frame, Move};
-use builtin_names::names_with;
+use crate::{Control, ControlForm, ControlMove};
+use builtin_names::{Vocabulary, names_with};
 use expr_tree::{Expr, Exprs, Limits, Sym};
 use item_list::Items;
-use name_table::Names;
 use std::alloc::Global;
 use std::test::Fail;
 
-fn table(alloc: Global) -> Result<Names, Fail>
-    ensures { IfOk result (λ names. HasBuiltins names) }
-{
+fn table(alloc: Global) -> Result<Vocabulary, Fail> {
     let none = Items::new(alloc);
     Ok(names_with(alloc, &none)?)
 }
@@ -50,30 +46,34 @@ fn folding(alloc: Global) -> Result<Exprs, Fail> {
     Ok(items)
 }
 
-fn begin(alloc: Global, names: &Names, form: Form, items: &Exprs) -> Result<Frame, Fail>
-    requires { HasBuiltins names.now }
-{
-    match Frame::start(alloc, names, form, items.as_slice())? {
+fn begin(
+    alloc: Global,
+    names: &Vocabulary,
+    form: ControlForm,
+    items: &Exprs,
+) -> Result<Control, Fail> {
+    match Control::start(alloc, names, form, items.as_slice())? {
         Some(frame) => Ok(frame),
         None => Err(Fail::from("no machine")),
     }
 }
 
 // the atoms of the question, or 0 where there is none
-fn atoms_asked_for(alloc: Global, names: &Names, frame: &mut Frame, answer: Option<Expr>) -> u64
-    requires { HasBuiltins names.now }
-{
+fn atoms_asked_for(
+    alloc: Global,
+    names: &Vocabulary,
+    frame: &mut Control,
+    answer: Option<Expr>,
+) -> u64 {
     match frame.step(alloc, names, &small(), answer) {
-        Ok(Move::Ask(question, _)) => question.size(),
+        Ok(ControlMove::Ask(question, _)) => question.size(),
         _ => 0,
     }
 }
 
-fn ends_with(alloc: Global, names: &Names, frame: &mut Frame, last: i128) -> bool
-    requires { HasBuiltins names.now }
-{
+fn ends_with(alloc: Global, names: &Vocabulary, frame: &mut Control, last: i128) -> bool {
     match frame.step(alloc, names, &small(), Some(Expr::int(last))) {
-        Ok(Move::Done(value)) => value.equals(&Expr::int(last)),
+        Ok(ControlMove::Done(value)) => value.equals(&Expr::int(last)),
         _ => false,
     }
 }
@@ -82,7 +82,7 @@ fn ends_with(alloc: Global, names: &Names, frame: &mut Frame, last: i128) -> boo
 fn a_compound_asks_in_turn_and_has_the_last_value(rt: HostRuntime) -> Result<(), Fail> {
     let names = table(rt.alloc())?;
     let items = integers(rt.alloc(), 1, 2)?;
-    let mut frame = begin(rt.alloc(), &names, Form::CompoundExpression, &items)?;
+    let mut frame = begin(rt.alloc(), &names, ControlForm::CompoundExpression, &items)?;
     assert_eq!(rt; atoms_asked_for(rt.alloc(), &names, &mut frame, None), 1);
     assert_eq!(rt;
         atoms_asked_for(rt.alloc(), &names, &mut frame, Some(Expr::int(7))),
@@ -96,7 +96,7 @@ fn a_compound_asks_in_turn_and_has_the_last_value(rt: HostRuntime) -> Result<(),
 fn a_fold_asks_for_its_function_at_each_element(rt: HostRuntime) -> Result<(), Fail> {
     let names = table(rt.alloc())?;
     let items = folding(rt.alloc())?;
-    let mut frame = begin(rt.alloc(), &names, Form::Fold, &items)?;
+    let mut frame = begin(rt.alloc(), &names, ControlForm::Fold, &items)?;
     assert_eq!(rt; atoms_asked_for(rt.alloc(), &names, &mut frame, None), 3);
     assert_eq!(rt;
         atoms_asked_for(rt.alloc(), &names, &mut frame, Some(Expr::int(7))),

@@ -3,19 +3,18 @@ ghost use Rattle.std.specs.Prelude.{◌≡◌, ◌<◌, length, None};
 ghost use Rattle.semantics.specs.Program.{Prog};
 ghost use Rattle.semantics.specs.Control.{which};
 ghost use Rattle.evaluation_steps.specs.Moves.{Moved};
-ghost use Rattle.builtin_names.specs.Named.{HasBuiltins, names_in};
-ghost use Rattle.frames_control.specs.Frames.{left};
-ghost use Rattle.frames_control.specs.Moving.{moving, IfAsks, Starts};
+ghost use Rattle.builtin_names.specs.Named.{names_in};
+ghost use Rattle.frames_control.specs.ControlLeft.{left};
+ghost use Rattle.frames_control.specs.ControlMoves.{moving, IfAsks, Starts};
 ghost use Rattle.frames_control.specs.Choices.{left_which, tested};
 
-use crate::frame::Frame;
-use crate::moves::Move;
+use crate::control::Control;
+use crate::moves::ControlMove;
 use crate::stack::Stack;
-use builtin_names::{is_name, name};
+use builtin_names::{Vocabulary, is_name, name};
 use evaluation_steps::Halt;
 use expr_lists::one;
 use expr_tree::{Expr, Limits};
-use name_table::Names;
 use semantics::Builtin;
 use std::alloc::{AllocError, Global};
 
@@ -26,65 +25,71 @@ pub struct Which {
 }
 
 impl Which {
-    pub fn start(alloc: Global, names: &Names, items: &[Expr]) -> Result<Option<Frame>, AllocError>
+    pub fn start(
+        alloc: Global,
+        names: &Vocabulary,
+        items: &[Expr],
+    ) -> Result<Option<Control>, AllocError>
         ensures { (stay : Prog) → Starts (left (names_in names.now)) (which (names_in names.now) stay items.now) stay result }
     {
         if items.len() % 2 == 1 {
             return Ok(None);
         }
-        Ok(Some(Frame::Which(Which {
+        Ok(Some(Control::Which(Which {
             rest: Stack::of(alloc, items)?,
         })))
     }
 
-    fn next_test(&mut self, alloc: Global, names: &Names, limits: &Limits) -> Result<Move, Halt>
-        requires names { HasBuiltins names.now }
+    fn next_test(
+        &mut self,
+        alloc: Global,
+        names: &Vocabulary,
+        limits: &Limits,
+    ) -> Result<ControlMove, Halt>
         ensures moved { Moved limits.now (left_which (names_in names.now) self.old None) (moving result) (left_which (names_in names.now) self.new) }
         ensures falls { IfAsks result (length self.new.rest < length self.old.rest) }
     {
         let Some(test) = self.rest.pop() else {
-            return Ok(Move::Done(name(names, Builtin::Null)));
+            return Ok(ControlMove::Done(name(names, Builtin::Null)));
         };
         if self.rest.is_empty() {
-            return Ok(Move::Build(name(names, Builtin::Which), one(alloc, test)?));
+            return Ok(ControlMove::Build(name(names, Builtin::Which), one(alloc, test)?));
         }
-        Ok(Move::Ask(test, false))
+        Ok(ControlMove::Ask(test, false))
     }
 
     fn answered(
         &mut self,
         alloc: Global,
-        names: &Names,
+        names: &Vocabulary,
         limits: &Limits,
         truth: Expr,
-    ) -> Result<Move, Halt>
-        requires names { HasBuiltins names.now }
+    ) -> Result<ControlMove, Halt>
         ensures moved { Moved limits.now (tested (names_in names.now) truth self.old.rest) (moving result) (left_which (names_in names.now) self.new) }
         ensures falls { IfAsks result (length self.new.rest < length self.old.rest) }
     {
         let Some(value) = self.rest.pop() else {
-            return Ok(Move::Done(name(names, Builtin::Null)));
+            return Ok(ControlMove::Done(name(names, Builtin::Null)));
         };
         if is_name(names, Builtin::True, &truth) {
-            return Ok(Move::Done(value));
+            return Ok(ControlMove::Done(value));
         }
         if is_name(names, Builtin::False, &truth) {
             return self.next_test(alloc, names, limits);
         }
         self.rest.push(value)?;
         self.rest.push(truth)?;
-        Ok(Move::Build(name(names, Builtin::Which), self.rest.take(alloc)))
+        Ok(ControlMove::Build(name(names, Builtin::Which), self.rest.take(alloc)))
     }
 
     /// A test that is neither True nor False stands with its value before the rest.
     pub fn step(
         &mut self,
         alloc: Global,
-        names: &Names,
+        names: &Vocabulary,
         limits: &Limits,
         answer: Option<Expr>,
-    ) -> Result<Move, Halt>
-        requires names { HasBuiltins names.now }
+    ) -> Result<ControlMove, Halt>
         ensures moved { Moved limits.now (left_which (names_in names.now) self.old answer) (moving result) (left_which (names_in names.now) self.new) }
         ensures falls { IfAsks result (length self.new.rest < length self.old.rest) }
     {

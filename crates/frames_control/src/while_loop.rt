@@ -3,18 +3,17 @@ ghost use Rattle.std.specs.Prelude.{◌≡◌, ◌<◌, ◌*◌, ◌+◌};
 ghost use Rattle.semantics.specs.Program.{Prog};
 ghost use Rattle.semantics.specs.Control.{while, while_true};
 ghost use Rattle.evaluation_steps.specs.Moves.{Moved};
-ghost use Rattle.builtin_names.specs.Named.{HasBuiltins, names_in};
-ghost use Rattle.frames_control.specs.Frames.{left};
-ghost use Rattle.frames_control.specs.Moving.{moving, IfAsks, Starts};
-ghost use Rattle.frames_control.specs.Turning.{left_while, tests_left};
+ghost use Rattle.builtin_names.specs.Named.{names_in};
+ghost use Rattle.frames_control.specs.ControlLeft.{left};
+ghost use Rattle.frames_control.specs.ControlMoves.{moving, IfAsks, Starts};
+ghost use Rattle.frames_control.specs.TurnForms.{left_while, tests_left};
 
+use crate::control::Control;
 use crate::countdown::{Countdown, MOST_TURNS};
-use crate::frame::Frame;
-use crate::moves::Move;
-use builtin_names::{is_name, name};
+use crate::moves::ControlMove;
+use builtin_names::{Vocabulary, is_name, name};
 use evaluation_steps::Halt;
 use expr_tree::{Expr, Limits, Stop};
-use name_table::Names;
 use semantics::Builtin;
 use std::alloc::{AllocError, Global};
 
@@ -28,13 +27,17 @@ pub struct While {
 }
 
 impl While {
-    pub fn start(alloc: Global, names: &Names, items: &[Expr]) -> Result<Option<Frame>, AllocError>
+    pub fn start(
+        alloc: Global,
+        names: &Vocabulary,
+        items: &[Expr],
+    ) -> Result<Option<Control>, AllocError>
         ensures { (stay : Prog) → Starts (left (names_in names.now)) (while (names_in names.now) stay items.now) stay result }
     {
         if items.len() != 2 {
             return Ok(None);
         }
-        Ok(Some(Frame::While(While {
+        Ok(Some(Control::While(While {
             test: items[0].copy(alloc)?,
             body: items[1].copy(alloc)?,
             turns: Countdown::from(MOST_TURNS),
@@ -42,7 +45,12 @@ impl While {
         })))
     }
 
-    fn turn(&mut self, alloc: Global, names: &Names, limits: &Limits) -> Result<Move, Halt>
+    fn turn(
+        &mut self,
+        alloc: Global,
+        names: &Vocabulary,
+        limits: &Limits,
+    ) -> Result<ControlMove, Halt>
         ensures moved { Moved limits.now (while_true (names_in names.now) self.old.turns self.old.test self.old.body) (moving result) (left_while (names_in names.now) self.new) }
         ensures falls { IfAsks result (tests_left self.new < 2 * self.old.turns + 1) }
     {
@@ -50,17 +58,16 @@ impl While {
             return Err(Halt::Stopped(Stop::Steps));
         }
         self.testing = true;
-        Ok(Move::Ask(self.test.copy(alloc)?, true))
+        Ok(ControlMove::Ask(self.test.copy(alloc)?, true))
     }
 
     pub fn step(
         &mut self,
         alloc: Global,
-        names: &Names,
+        names: &Vocabulary,
         limits: &Limits,
         answer: Option<Expr>,
-    ) -> Result<Move, Halt>
-        requires names { HasBuiltins names.now }
+    ) -> Result<ControlMove, Halt>
         ensures moved { Moved limits.now (left_while (names_in names.now) self.old answer) (moving result) (left_while (names_in names.now) self.new) }
         ensures falls { IfAsks result (tests_left self.new < tests_left self.old) }
     {
@@ -68,12 +75,12 @@ impl While {
             return self.turn(alloc, names, limits);
         }
         let Some(truth) = answer else {
-            return Ok(Move::Done(name(names, Builtin::Null)));
+            return Ok(ControlMove::Done(name(names, Builtin::Null)));
         };
         if !is_name(names, Builtin::True, &truth) {
-            return Ok(Move::Done(name(names, Builtin::Null)));
+            return Ok(ControlMove::Done(name(names, Builtin::Null)));
         }
         self.testing = false;
-        Ok(Move::Ask(self.body.copy(alloc)?, false))
+        Ok(ControlMove::Ask(self.body.copy(alloc)?, false))
     }
 }

@@ -7,7 +7,7 @@ use Rattle.semantics.specs.Program.{Prog, Ask}
 use Rattle.semantics.specs.Scoping.{ask_values, renamed, with_number}
 use Rattle.frames_scope.specs.declared.locals.Local.{Local}
 use Rattle.frames_scope.specs.Reading.{local_in, locals_in}
-use Rattle.frames_scope.specs.Left.{answered, left_asking}
+use Rattle.frames_scope.specs.ScopingLeft.{answered, left_asking}
 use Rattle.frames_scope.specs.declared.asking.Asking.{Asking}
 
 here : (ls : List Local) (i : ℕ) (x : Local) → i < length ls → x ≡ get_or ls i x → drop i ls ≡ x ∷ drop (i + 1) ls

@@ -9,7 +9,6 @@ use Rattle.semantics.specs.Program as p
 use Rattle.semantics.specs.Program.{Prog}
 use Rattle.semantics.specs.Scoping.{with_locals, local_of, locals_of, valued_local, symbols_of}
 use Rattle.frames_scope.specs.declared.locals.Local.{Local}
-use Rattle.frames_scope.specs.declared.locals.Scope.{Scope}
 use Rattle.frames_scope.specs.Reading.{local_in, locals_in, local_read, locals_read, locals_under, IsRead}
 
 -- ---- one local

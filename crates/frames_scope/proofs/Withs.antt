@@ -12,11 +12,11 @@ use Rattle.semantics.specs.Program.{Prog, Done, Ask}
 use Rattle.semantics.specs.Scoping.{ask_values, values_in, with_form}
 use Rattle.evaluation_steps.specs.Moves.{Moved}
 use Rattle.frames_scope.specs.declared.locals.Local.{Local}
-use Rattle.frames_scope.specs.Reading.{local_in, locals_in}
-use Rattle.frames_scope.specs.declared.moves.Move.{Move}
+use Rattle.frames_scope.specs.Reading.{locals_in}
+use Rattle.frames_scope.specs.declared.moves.ScopeMove.{ScopeMove}
 use Rattle.frames_scope.specs.declared.with_form.With.{With}
-use Rattle.frames_scope.specs.Moving.{moving}
-use Rattle.frames_scope.specs.Left.{ask_each, bound, left_with}
+use Rattle.frames_scope.specs.ScopeMoves.{moving}
+use Rattle.frames_scope.specs.ScopingLeft.{ask_each, bound, left_with}
 use Rattle.frames_scope.specs.Asked.{all_valued}
 use Rattle.frames_scope.proofs.Machines.{shown}
 
@@ -75,16 +75,16 @@ taken names old new answer done locals place body =
 
 pub with_asks : (limits : Limits) (names : Names) (old new : With) (answer : Option Tree) (x : Sym × Tree) → new.done ≡ bound old.asked answer old.done → new.locals ≡ old.locals → new.place ≡ old.place → new.body ≡ old.body
     → new.place < length new.locals → x ≡ get_or new.locals new.place x
-    → Moved limits (left_with names old answer) (moving names (Ok (Move.Ask x.1))) (left_with names (record { locals = new.locals; place = new.place + 1; asked = Some x.0; done = new.done; body = new.body }))
+    → Moved limits (left_with names old answer) (moving names (Ok (ScopeMove.Ask x.1))) (left_with names (record { locals = new.locals; place = new.place + 1; asked = Some x.0; done = new.done; body = new.body }))
 with_asks limits names old new answer x done locals place body inside is =
-    shown names (Move.Ask x.1)
+    shown names (ScopeMove.Ask x.1)
     (taken names old new answer done locals place body
     ∙ ap (λ ls. ask_each ls new.done (λ b. Done (put_in_place names b new.body))) (next_local new.locals new.place x inside is))
 
 pub with_ends : (limits : Limits) (names : Names) (old new : With) (answer : Option Tree) (rest : Option Tree → Prog) → new.done ≡ bound old.asked answer old.done → new.locals ≡ old.locals → new.place ≡ old.place → new.body ≡ old.body
-    → length new.locals ≤ new.place → Moved limits (left_with names old answer) (moving names (Ok (Move.Place new.done new.body))) rest
+    → length new.locals ≤ new.place → Moved limits (left_with names old answer) (moving names (Ok (ScopeMove.Place new.done new.body))) rest
 with_ends limits names old new answer rest done locals place body all =
-    shown names (Move.Place new.done new.body) {rest = rest}
+    shown names (ScopeMove.Place new.done new.body) {rest = rest}
     (taken names old new answer done locals place body
     ∙ ap (λ ls. ask_each ls new.done (λ b. Done (put_in_place names b new.body))) (none_left new.locals new.place all))
 

@@ -5,10 +5,10 @@ use Rattle.expr_tree.specs.Tree.{Tree}
 use Rattle.semantics.specs.Program as p
 use Rattle.semantics.specs.Program.{Prog, Ask}
 use Rattle.frames_scope.specs.Reading.{locals_in}
-use Rattle.frames_scope.specs.Left.{left_asking, left_with}
+use Rattle.frames_scope.specs.ScopingLeft.{left_asking, left_with}
 use Rattle.semantics.specs.Scoping.{with_number, renaming, values_in, with_form}
 use Rattle.frames_scope.specs.declared.locals.Local.{Local}
-use Rattle.frames_scope.specs.declared.moves.Move.{Move}
+use Rattle.frames_scope.specs.declared.moves.ScopeMove.{ScopeMove}
 use Rattle.frames_scope.specs.declared.block_form.Block.{Block}
 use Rattle.frames_scope.specs.declared.with_form.With.{With}
 use Rattle.semantics.specs.Names.{Names}
@@ -35,8 +35,8 @@ block_left (Block.Values a body) = locals_left a + 1
 block_left Block.Body = 0
 
 -- symbols are made with these values, and the body has them in the place of the old ones
-abbrev pub IsMade : ℕ → List Local → Tree → Move → Type 0
-IsMade number done body (Move.Make ls b e) =
+abbrev pub IsMade : ℕ → List Local → Tree → ScopeMove → Type 0
+IsMade number done body (ScopeMove.Make ls b e) =
     (locals_in ls ≡ with_number number (locals_in done)) × (b ≡ renaming number (locals_in done)) × (e ≡ body)
 IsMade number done body _ = ⊥
 

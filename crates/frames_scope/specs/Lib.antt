@@ -1,4 +1,4 @@
 pub mod Reading
-pub mod Moving
-pub mod Left
+pub mod ScopeMoves
+pub mod ScopingLeft
 pub mod Asked

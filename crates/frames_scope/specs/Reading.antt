@@ -1,7 +1,7 @@
 -- The locals of a form, as the program keeps them.
 --     local_in, locals_in   locals as the definitions have them
 --     IsRead                a form has locals and a body, or stays
-use Rattle.std.specs.Prelude.{◌≡◌, Bool, true, false, List, [], ◌∷◌, Option, Some, None, Result, Ok, Err}
+use Rattle.std.specs.Prelude.{◌≡◌, Bool, true, false, List, [], ◌∷◌, Option, Some, None}
 use Rattle.expr_tree.specs.declared.sym.Sym.{Sym}
 use Rattle.expr_tree.specs.Tree.{Tree}
 use Rattle.semantics.specs.Names.{Names, is_call, items_of}

@@ -2,10 +2,11 @@
 ghost use Rattle.std.specs.Prelude.{◌≡◌, ◌≤◌, ◌<◌, ◌-◌, ◌+◌, [], None, length, IfOk, OnOk, List};
 ghost use Rattle.semantics.specs.Scoping.{ask_values};
 ghost use Rattle.frames_scope.specs.Reading.{locals_in};
-ghost use Rattle.frames_scope.specs.Left.{answered};
+ghost use Rattle.frames_scope.specs.ScopingLeft.{answered};
 ghost use Rattle.frames_scope.specs.Asked.{Goes, FallsBy, locals_left};
 
-use crate::locals::{Local, Locals, value_copied};
+use crate::locals::{Local, Locals};
+use expr_lists::value_copied;
 use expr_tree::{Expr, Sym};
 use item_list::Items;
 use std::alloc::{AllocError, Global};

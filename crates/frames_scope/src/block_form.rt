@@ -5,18 +5,17 @@ ghost use Rattle.semantics.specs.Program.{Done, Within};
 ghost use Rattle.semantics.specs.Scoping.{ask_values};
 ghost use Rattle.evaluation_steps.specs.Moves.{Moved};
 ghost use Rattle.semantics.specs.Names as n;
-ghost use Rattle.builtin_names.specs.Named.{HasBuiltins, names_in};
+ghost use Rattle.builtin_names.specs.Named.{names_in};
 ghost use Rattle.frames_scope.specs.Asked.{block_left};
-ghost use Rattle.frames_scope.specs.Left.{left_block};
-ghost use Rattle.frames_scope.specs.Moving.{moving, IfAsks};
+ghost use Rattle.frames_scope.specs.ScopingLeft.{left_block};
+ghost use Rattle.frames_scope.specs.ScopeMoves.{moving, IfAsks};
 ghost use Rattle.frames_scope.specs.Reading.{locals_in};
 
 use crate::asking::Asking;
 use crate::locals::Scope;
-use crate::moves::Move;
-use builtin_names::name;
+use crate::moves::ScopeMove;
+use builtin_names::{Vocabulary, name};
 use expr_tree::Expr;
-use name_table::Names;
 use semantics::Builtin;
 use std::alloc::{AllocError, Global};
 use std::mem;
@@ -40,10 +39,9 @@ impl Block {
     pub fn step(
         &mut self,
         alloc: Global,
-        names: &Names,
+        names: &Vocabulary,
         answer: Option<Expr>,
-    ) -> Result<Move, AllocError>
-        requires names { HasBuiltins names.now }
+    ) -> Result<ScopeMove, AllocError>
         ensures moved { (limits : Limits) → Moved limits (left_block (names_in names.now) self.old answer) (moving (names_in names.now) result) (left_block (names_in names.now) self.new) }
         ensures falls { IfAsks result (block_left self.new < block_left self.old) }
     {
@@ -51,13 +49,13 @@ impl Block {
             Block::Values(mut asking, body) => match asking.next(alloc, answer)? {
                 Some(question) => {
                     *self = Block::Values(asking, body);
-                    Ok(Move::Ask(question))
+                    Ok(ScopeMove::Ask(question))
                 }
-                None => Ok(Move::Within(asking.finish(alloc), body)),
+                None => Ok(ScopeMove::Within(asking.finish(alloc), body)),
             },
             Block::Body => match answer {
-                Some(value) => Ok(Move::Done(value)),
-                None => Ok(Move::Done(name(names, Builtin::Null))),
+                Some(value) => Ok(ScopeMove::Done(value)),
+                None => Ok(ScopeMove::Done(name(names, Builtin::Null))),
             },
         }
     }

@@ -1,5 +1,5 @@
 //! Module: its locals are new symbols for good.
-ghost use Rattle.std.specs.Prelude.{◌≡◌, ◌<◌, ◌∷◌, [], None, IfOk};
+ghost use Rattle.std.specs.Prelude.{◌≡◌, ◌<◌, [], None, IfOk};
 ghost use Rattle.expr_tree.specs.declared.limits.Limits.{Limits};
 ghost use Rattle.semantics.specs.InPlace.{put_in_place};
 ghost use Rattle.semantics.specs.Program.{Done};
@@ -7,14 +7,15 @@ ghost use Rattle.semantics.specs.Scoping.{ask_values, make_all, with_number, ren
 ghost use Rattle.evaluation_steps.specs.Moves.{Moved};
 ghost use Rattle.semantics.specs.Names.{Names};
 ghost use Rattle.frames_scope.specs.Asked.{locals_left, IsMade};
-ghost use Rattle.frames_scope.specs.Left.{left_module};
-ghost use Rattle.frames_scope.specs.Moving.{moving, IfAsks};
+ghost use Rattle.frames_scope.specs.ScopingLeft.{left_module};
+ghost use Rattle.frames_scope.specs.ScopeMoves.{moving, IfAsks};
 ghost use Rattle.frames_scope.specs.Reading.{locals_in};
 
 use crate::asking::Asking;
-use crate::locals::{Local, Locals, Scope, value_copied};
-use crate::moves::Move;
-use expr_tree::{Expr, Exprs, Sym};
+use crate::locals::{Local, Locals, Scope};
+use crate::moves::ScopeMove;
+use expr_lists::{one, value_copied};
+use expr_tree::{Expr, Sym};
 use item_list::Items;
 use std::alloc::{AllocError, Global};
 use substitution::Bindings;
@@ -50,14 +51,6 @@ fn with_number(alloc: Global, number: u64, locals: &Locals) -> Result<Locals, Al
     Ok(numbered)
 }
 
-fn one(alloc: Global, e: Expr) -> Result<Exprs, AllocError>
-    ensures { IfOk result (λ run. run ≡ e ∷ []) }
-{
-    let mut run = Items::new(alloc);
-    run.push(e)?;
-    Ok(run)
-}
-
 /// Each symbol with its new one.
 fn renaming(alloc: Global, number: u64, locals: &Locals) -> Result<Bindings, AllocError>
     ensures { IfOk result (λ r. r ≡ renaming number (locals_in locals.now)) }
@@ -82,23 +75,23 @@ impl Module {
         }
     }
 
-    fn made(&mut self, alloc: Global) -> Result<Move, AllocError>
+    fn make_symbols(&mut self, alloc: Global) -> Result<ScopeMove, AllocError>
         ensures { IfOk result (λ move. IsMade self.old.number self.old.asking.done self.old.body move) }
     {
         let locals = self.asking.finish(alloc);
         let bindings = renaming(alloc, self.number, &locals)?;
         let numbered = with_number(alloc, self.number, &locals)?;
-        Ok(Move::Make(numbered, bindings, self.body.copy(alloc)?))
+        Ok(ScopeMove::Make(numbered, bindings, self.body.copy(alloc)?))
     }
 
     /// The next question, or the symbols that are made and the result.
-    pub fn step(&mut self, alloc: Global, answer: Option<Expr>) -> Result<Move, AllocError>
+    pub fn step(&mut self, alloc: Global, answer: Option<Expr>) -> Result<ScopeMove, AllocError>
         ensures moved { (limits : Limits) (names : Names) → Moved limits (left_module names self.old answer) (moving names result) (left_module names self.new) }
         ensures falls { IfAsks result (locals_left self.new.asking < locals_left self.old.asking) }
     {
         match self.asking.next(alloc, answer)? {
-            Some(question) => Ok(Move::Ask(question)),
-            None => self.made(alloc),
+            Some(question) => Ok(ScopeMove::Ask(question)),
+            None => self.make_symbols(alloc),
         }
     }
 }

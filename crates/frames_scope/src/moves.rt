@@ -5,7 +5,7 @@ use substitution::Bindings;
 
 /// What a machine does next.
 #[derive(Drop)]
-pub enum Move {
+pub enum ScopeMove {
     /// Asks for the value of an expression, evaluated one deeper.
     Ask(Expr),
     /// The same with the definitions of the locals put by, their values given, and all put back.

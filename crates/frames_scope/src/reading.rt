@@ -1,15 +1,15 @@
 //! The locals and the body of a form of two elements.
 ghost use Rattle.std.specs.Prelude.{◌≡◌, IfOk};
 ghost use Rattle.semantics.specs.Scoping as s;
-ghost use Rattle.builtin_names.specs.Named.{HasBuiltins, names_in};
+ghost use Rattle.builtin_names.specs.Named.{names_in};
 ghost use Rattle.frames_scope.specs.Reading.{local_read, locals_in, locals_read, locals_under, IsRead};
 
 use crate::locals::{Local, Locals, Scope};
-use crate::symbols::{bases_differ, differ};
-use builtin_names::items_under;
+use crate::symbols::bases_differ;
+use builtin_names::{Vocabulary, items_under};
+use expr_lists::differ;
 use expr_tree::{Expr, Exprs, Node, Syms};
 use item_list::Items;
-use name_table::Names;
 use semantics::Builtin;
 use std::alloc::{AllocError, Global};
 
@@ -43,8 +43,7 @@ fn valued_local(alloc: Global, items: &Exprs) -> Result<Option<Local>, AllocErro
 }
 
 /// A local: a symbol, or `symbol = value`.
-fn local_of(alloc: Global, names: &Names, e: &Expr) -> Result<Option<Local>, AllocError>
-    requires names { HasBuiltins names.now }
+fn local_of(alloc: Global, names: &Vocabulary, e: &Expr) -> Result<Option<Local>, AllocError>
     ensures { IfOk result (λ r. local_read r ≡ s.local_of (names_in names.now) e.now) }
 {
     match items_under(names, Builtin::Set, e) {
@@ -54,8 +53,11 @@ fn local_of(alloc: Global, names: &Names, e: &Expr) -> Result<Option<Local>, All
 }
 
 #[tactic(auto, using(crate::proofs::Readings::locals_steps))]
-fn locals_of(alloc: Global, names: &Names, items: &[Expr]) -> Result<Option<Locals>, AllocError>
-    requires names { HasBuiltins names.now }
+fn locals_of(
+    alloc: Global,
+    names: &Vocabulary,
+    items: &[Expr],
+) -> Result<Option<Locals>, AllocError>
     ensures { IfOk result (λ r. locals_read r ≡ s.locals_of (names_in names.now) items.now) }
 {
     let mut locals = Items::new(alloc);
@@ -80,8 +82,11 @@ fn symbols_of(alloc: Global, locals: &Locals) -> Result<Syms, AllocError>
 }
 
 /// The locals of a list of locals.
-fn locals_under(alloc: Global, names: &Names, list: &Expr) -> Result<Option<Locals>, AllocError>
-    requires names { HasBuiltins names.now }
+fn locals_under(
+    alloc: Global,
+    names: &Vocabulary,
+    list: &Expr,
+) -> Result<Option<Locals>, AllocError>
     ensures { IfOk result (λ r. locals_read r ≡ locals_under (names_in names.now) list.now) }
 {
     match items_under(names, Builtin::List, list) {
@@ -94,10 +99,9 @@ fn locals_under(alloc: Global, names: &Names, list: &Expr) -> Result<Option<Loca
 #[tactic(auto, using(crate::proofs::Readings::read_steps))]
 pub fn module_scope(
     alloc: Global,
-    names: &Names,
+    names: &Vocabulary,
     items: &[Expr],
 ) -> Result<Option<Scope>, AllocError>
-    requires names { HasBuiltins names.now }
     ensures { IfOk result (λ r. IsRead (names_in names.now) s.bases_differ items.now r) }
 {
     let [list, body] = items else {
@@ -118,10 +122,9 @@ pub fn module_scope(
 #[tactic(auto, using(crate::proofs::Readings::read_steps))]
 pub fn block_scope(
     alloc: Global,
-    names: &Names,
+    names: &Vocabulary,
     items: &[Expr],
 ) -> Result<Option<Scope>, AllocError>
-    requires names { HasBuiltins names.now }
     ensures { IfOk result (λ r. IsRead (names_in names.now) s.differ items.now r) }
 {
     let [list, body] = items else {

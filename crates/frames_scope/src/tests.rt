@@ -1,4 +1,4 @@
-use crate::{Block, Local, Module, Move, Scope};
+use crate::{Block, Local, Module, Scope, ScopeMove};
 use expr_tree::{Expr, Sym};
 use item_list::Items;
 use std::alloc::Global;
@@ -22,11 +22,11 @@ fn scope(alloc: Global) -> Result<Scope, Fail> {
 #[test]
 fn a_module_asks_and_makes(rt: HostRuntime) -> Result<(), Fail> {
     let mut module = Module::start(rt.alloc(), scope(rt.alloc())?, 7);
-    let Move::Ask(question) = module.step(rt.alloc(), None)? else {
+    let ScopeMove::Ask(question) = module.step(rt.alloc(), None)? else {
         return Err(Fail::from("no question"));
     };
     assert!(rt; question.equals(&Expr::int(2)));
-    let Move::Make(locals, _, _) = module.step(rt.alloc(), Some(question))? else {
+    let ScopeMove::Make(locals, _, _) = module.step(rt.alloc(), Some(question))? else {
         return Err(Fail::from("no symbol"));
     };
     assert_eq!(rt; locals.len(), 1);

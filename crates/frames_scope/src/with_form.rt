@@ -4,12 +4,12 @@ ghost use Rattle.expr_tree.specs.declared.limits.Limits.{Limits};
 ghost use Rattle.evaluation_steps.specs.Moves.{Moved};
 ghost use Rattle.semantics.specs.Names.{Names};
 ghost use Rattle.frames_scope.specs.Asked.{IsValued, StartsWith};
-ghost use Rattle.frames_scope.specs.Left.{as_run, bound, left_with};
-ghost use Rattle.frames_scope.specs.Moving.{moving, IfAsks};
+ghost use Rattle.frames_scope.specs.ScopingLeft.{as_run, bound, left_with};
+ghost use Rattle.frames_scope.specs.ScopeMoves.{moving, IfAsks};
 ghost use Rattle.frames_scope.specs.Reading.{locals_in};
 
 use crate::locals::{Locals, Scope};
-use crate::moves::Move;
+use crate::moves::ScopeMove;
 use expr_tree::{Expr, Exprs, Sym};
 use item_list::Items;
 use std::alloc::{AllocError, Global};
@@ -84,7 +84,7 @@ impl With {
     }
 
     /// The next question, or the result.
-    pub fn step(&mut self, alloc: Global, answer: Option<Expr>) -> Result<Move, AllocError>
+    pub fn step(&mut self, alloc: Global, answer: Option<Expr>) -> Result<ScopeMove, AllocError>
         ensures moved { (limits : Limits) (names : Names) → Moved limits (left_with names self.old answer) (moving names result) (left_with names self.new) }
         ensures falls { IfAsks result (length self.new.locals - self.new.place < length self.old.locals - self.old.place) }
     {
@@ -94,9 +94,9 @@ impl With {
             let question = local.1.copy(alloc)?;
             self.asked = Some(local.0);
             self.place += 1;
-            return Ok(Move::Ask(question));
+            return Ok(ScopeMove::Ask(question));
         }
         let done = mem::replace(&mut self.done, Items::new(alloc));
-        Ok(Move::Place(done, self.body.copy(alloc)?))
+        Ok(ScopeMove::Place(done, self.body.copy(alloc)?))
     }
 }

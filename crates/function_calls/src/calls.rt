@@ -2,24 +2,26 @@
 ghost use Rattle.std.specs.Prelude.{[], ◌∷◌};
 ghost use Rattle.semantics.specs.InPlace.{fill_slots, put_in_place};
 ghost use Rattle.semantics.specs.Worked.{Gives};
-ghost use Rattle.builtin_names.specs.Named.{HasBuiltins, names_in};
+ghost use Rattle.builtin_names.specs.Named.{names_in};
 ghost use Rattle.builtin_names.specs.Results.{Works};
 ghost use Rattle.function_calls.specs.Applies.{Applies};
 
 use crate::count::nodes_after;
 use crate::fill::fill;
 use crate::parameters::{paired, parameters};
-use builtin_names::Fault;
+use builtin_names::{Fault, Vocabulary};
 use expr_lists::differ;
 use expr_tree::{Built, Expr, MAX_SIZE};
-use frames_scope::place;
-use name_table::Names;
 use std::alloc::Global;
-use substitution::Bindings;
+use substitution::{Bindings, subst};
 
 /// The body with the arguments in the places of its slots. Levels without slots are shared with it.
-fn filled(alloc: Global, names: &Names, args: &[Expr], body: &Expr) -> Result<Option<Expr>, Fault>
-    requires names { HasBuiltins names.now }
+fn filled(
+    alloc: Global,
+    names: &Vocabulary,
+    args: &[Expr],
+    body: &Expr,
+) -> Result<Option<Expr>, Fault>
     ensures { Works (Gives (fill_slots (names_in names.now) args.now body.now)) result }
 {
     match fill(alloc, names, args, body) {
@@ -40,25 +42,23 @@ fn filled(alloc: Global, names: &Names, args: &[Expr], body: &Expr) -> Result<Op
 /// The body with the arguments in the places of the parameters.
 fn placed(
     alloc: Global,
-    names: &Names,
+    names: &Vocabulary,
     bindings: &Bindings,
     body: &Expr,
 ) -> Result<Option<Expr>, Fault>
-    requires names { HasBuiltins names.now }
     ensures { Works (Gives (put_in_place (names_in names.now) bindings.now body.now)) result }
 {
-    Ok(Some(place(alloc, names, bindings, body)?))
+    Ok(Some(subst(alloc, body, bindings, names)?))
 }
 
 #[tactic(auto, using(crate::proofs::Applied::named_steps))]
 fn apply_named(
     alloc: Global,
-    names: &Names,
+    names: &Vocabulary,
     first: &Expr,
     body: &Expr,
     args: &[Expr],
 ) -> Result<Option<Expr>, Fault>
-    requires names { HasBuiltins names.now }
     ensures { Applies (names_in names.now) (first.now ∷ body.now ∷ []) args.now result }
 {
     let Some(symbols) = parameters(alloc, names, first)? else {
@@ -77,11 +77,10 @@ fn apply_named(
 #[tactic(auto, using(crate::proofs::Applied::apply_steps))]
 pub fn apply(
     alloc: Global,
-    names: &Names,
+    names: &Vocabulary,
     parts: &[Expr],
     args: &[Expr],
 ) -> Result<Option<Expr>, Fault>
-    requires names { HasBuiltins names.now }
     ensures { Applies (names_in names.now) parts.now args.now result }
 {
     if parts.len() == 1 {

@@ -2,15 +2,15 @@
 ghost use Rattle.std.specs.Prelude.{◌≡◌, ◌+◌, min};
 ghost use Rattle.expr_tree.specs.Tree.{trees, size, sizes};
 ghost use Rattle.semantics.specs.InPlace.{as_one, fill_slots, fill_in_items, filled};
-ghost use Rattle.builtin_names.specs.Named.{HasBuiltins, names_in};
+ghost use Rattle.builtin_names.specs.Named.{names_in};
 
 use crate::slots::{is_pure_function, run_for, slot_of};
+use builtin_names::Vocabulary;
 use expr_lists::{TOO_MANY, nodes_of_all};
 use expr_tree::{Expr, Node};
-use name_table::Names;
 
 #[tactic(auto, using(expr_tree::proofs::Callers::tree_steps))]
-fn nodes_of_run(_names: &Names, run: &[Expr]) -> u64
+fn nodes_of_run(_names: &Vocabulary, run: &[Expr]) -> u64
     ensures { result ≡ min (size (as_one (names_in _names.now) run.now)) 4000001 }
 {
     match run {
@@ -19,8 +19,7 @@ fn nodes_of_run(_names: &Names, run: &[Expr]) -> u64
     }
 }
 
-fn nodes_of_slot(names: &Names, args: &[Expr], slot: &Expr, place: u128) -> u64
-    requires names { HasBuiltins names.now }
+fn nodes_of_slot(names: &Vocabulary, args: &[Expr], slot: &Expr, place: u128) -> u64
     ensures { result ≡ min (size (filled (names_in names.now) args.now slot.now place)) 4000001 }
 {
     match run_for(names, args, slot, place) {
@@ -31,8 +30,7 @@ fn nodes_of_slot(names: &Names, args: &[Expr], slot: &Expr, place: u128) -> u64
 
 #[cycle(count)]
 #[tactic(auto, using(crate::proofs::Filling::fill_steps))]
-pub(crate) fn nodes_after(names: &Names, args: &[Expr], e: &Expr) -> u64
-    requires names { HasBuiltins names.now }
+pub(crate) fn nodes_after(names: &Vocabulary, args: &[Expr], e: &Expr) -> u64
     ensures { result ≡ min (size (fill_slots (names_in names.now) args.now e.now)) 4000001 }
 {
     let Node::Normal(head, items) = e.node() else {
@@ -50,8 +48,7 @@ pub(crate) fn nodes_after(names: &Names, args: &[Expr], e: &Expr) -> u64
 
 #[cycle(count)]
 #[tactic(auto, using(expr_tree::proofs::Callers::tree_steps))]
-fn nodes_after_all(names: &Names, args: &[Expr], items: &[Expr]) -> u64
-    requires names { HasBuiltins names.now }
+fn nodes_after_all(names: &Vocabulary, args: &[Expr], items: &[Expr]) -> u64
     ensures { result ≡ min (sizes (fill_in_items (names_in names.now) args.now (trees items.now))) 4000001 }
 {
     let mut total = 0;

@@ -3,12 +3,12 @@ ghost use Rattle.std.specs.Prelude.{◌≡◌, ◌≤◌, IfOk, drop, length, un
 ghost use Rattle.expr_tree.specs.Tree.{normal, trees};
 ghost use Rattle.semantics.specs.InPlace.{fill_slots, fill_in_items, filled};
 ghost use Rattle.substitution.specs.Puts.{Puts, PutsAll, MakesAfter};
-ghost use Rattle.builtin_names.specs.Named.{HasBuiltins, names_in};
+ghost use Rattle.builtin_names.specs.Named.{names_in};
 
 use crate::slots::{as_one, is_pure_function, run_for, slot_of};
+use builtin_names::Vocabulary;
 use expr_lists::copies;
 use expr_tree::{Built, Expr, Exprs, Node};
-use name_table::Names;
 use std::alloc::{AllocError, Global};
 
 fn new_or_copy(alloc: Global, new: Option<Expr>, old: &Expr) -> Result<Expr, AllocError>
@@ -31,12 +31,11 @@ fn new_or_copies(alloc: Global, new: Option<Exprs>, old: &[Expr]) -> Result<Expr
 
 fn fill_slot(
     alloc: Global,
-    names: &Names,
+    names: &Vocabulary,
     args: &[Expr],
     slot: &Expr,
     place: u128,
 ) -> Result<Option<Expr>, Built>
-    requires names { HasBuiltins names.now }
     ensures { Puts slot.now (filled (names_in names.now) args.now slot.now place) result }
 {
     match run_for(names, args, slot, place) {
@@ -50,11 +49,10 @@ fn fill_slot(
 #[tactic(auto, using(crate::proofs::Filling::fill_steps))]
 pub(crate) fn fill(
     alloc: Global,
-    names: &Names,
+    names: &Vocabulary,
     args: &[Expr],
     e: &Expr,
 ) -> Result<Option<Expr>, Built>
-    requires names { HasBuiltins names.now }
     ensures { Puts e.now (fill_slots (names_in names.now) args.now e.now) result }
 {
     let Node::Normal(head, items) = e.node() else {
@@ -81,11 +79,10 @@ pub(crate) fn fill(
 #[tactic(auto, using(expr_tree::proofs::Callers::tree_steps))]
 fn fill_all(
     alloc: Global,
-    names: &Names,
+    names: &Vocabulary,
     args: &[Expr],
     items: &[Expr],
 ) -> Result<Option<Exprs>, Built>
-    requires names { HasBuiltins names.now }
     ensures { PutsAll items.now (fill_in_items (names_in names.now) args.now (trees items.now)) result }
 {
     for (i, item) in items.iter().enumerate() {
@@ -103,13 +100,12 @@ fn fill_all(
 #[tactic(auto, using(expr_tree::proofs::Callers::tree_steps))]
 fn fill_rest(
     alloc: Global,
-    names: &Names,
+    names: &Vocabulary,
     args: &[Expr],
     made: Exprs,
     items: &[Expr],
     from: usize,
 ) -> Result<Exprs, Built>
-    requires names { HasBuiltins names.now }
     requires within { from ≤ length items.now }
     ensures { MakesAfter made (fill_in_items (names_in names.now) args.now (trees (drop from items.now))) result }
 {

@@ -1,36 +1,23 @@
 //! The parameters of a Function, and their arguments.
 ghost use Rattle.std.specs.Prelude.{◌≡◌, IfOk};
 ghost use Rattle.semantics.specs.Scoping as s;
-ghost use Rattle.builtin_names.specs.Named.{HasBuiltins, names_in};
+ghost use Rattle.builtin_names.specs.Named.{names_in};
 
-use builtin_names::items_under;
-use expr_lists::copies;
+use builtin_names::{Vocabulary, items_under};
+use expr_lists::{copies, symbols_in};
 use expr_tree::{Expr, Node, Sym, Syms};
 use item_list::Items;
-use name_table::Names;
 use semantics::Builtin;
 use std::alloc::{AllocError, Global};
 use substitution::Bindings;
 
-/// The symbols that the elements of a list are, where all are symbols.
-#[tactic(auto, using(crate::proofs::Arguments::symbol_steps))]
-fn symbols_in(alloc: Global, items: &[Expr]) -> Result<Option<Syms>, AllocError>
-    ensures { IfOk result (λ r. r ≡ s.symbols_in items.now) }
-{
-    let mut symbols = Items::new(alloc);
-    for item in items {
-        match item.node() {
-            Node::Symbol(symbol) => symbols.push(*symbol)?,
-            _ => return Ok(None),
-        }
-    }
-    Ok(Some(symbols))
-}
-
 /// The parameters that the first of two elements names: itself, or the symbols of a list.
 #[tactic(auto, using(crate::proofs::Arguments::parameter_steps))]
-pub(crate) fn parameters(alloc: Global, names: &Names, e: &Expr) -> Result<Option<Syms>, AllocError>
-    requires names { HasBuiltins names.now }
+pub(crate) fn parameters(
+    alloc: Global,
+    names: &Vocabulary,
+    e: &Expr,
+) -> Result<Option<Syms>, AllocError>
     ensures { IfOk result (λ r. r ≡ s.parameters (names_in names.now) e.now) }
 {
     if let Node::Symbol(symbol) = e.node() {

@@ -4,19 +4,17 @@ ghost use Rattle.std.specs.Option.{option_map};
 ghost use Rattle.expr_tree.specs.Limits.{Makes};
 ghost use Rattle.expr_tree.specs.Tree.{trees};
 ghost use Rattle.semantics.specs.InPlace as i;
-ghost use Rattle.builtin_names.specs.Named.{HasBuiltins, names_in};
+ghost use Rattle.builtin_names.specs.Named.{names_in};
 ghost use Rattle.function_calls.specs.Runs.{with_run};
 
-use builtin_names::{is_call, is_name, items_of, make};
+use builtin_names::{Vocabulary, is_call, is_name, items_of, make};
 use expr_lists::copies;
 use expr_tree::{Built, Expr, Node};
-use name_table::Names;
 use semantics::Builtin;
 use std::alloc::Global;
 
 /// The place, from 0, that a slot or a sequence of slots names.
-pub(crate) fn slot_of(names: &Names, e: &Expr) -> Option<u128>
-    requires names { HasBuiltins names.now }
+pub(crate) fn slot_of(names: &Vocabulary, e: &Expr) -> Option<u128>
     ensures { result ≡ i.slot_of (names_in names.now) e.now }
 {
     if is_call(names, Builtin::Slot, e) || is_call(names, Builtin::SlotSequence, e) {
@@ -27,8 +25,7 @@ pub(crate) fn slot_of(names: &Names, e: &Expr) -> Option<u128>
 
 /// Whether this head and these elements make a Function of one element, which has slots of its own.
 #[tactic(auto, using(crate::proofs::Filling::function_steps))]
-pub(crate) fn is_pure_function(names: &Names, head: &Expr, items: &[Expr]) -> bool
-    requires names { HasBuiltins names.now }
+pub(crate) fn is_pure_function(names: &Vocabulary, head: &Expr, items: &[Expr]) -> bool
     ensures { result ≡ i.is_pure_function (names_in names.now) head.now (trees items.now) }
 {
     if items.len() != 1 {
@@ -54,12 +51,11 @@ fn slot_number(items: &[Expr]) -> Option<u128>
 /// The arguments that stand for a slot of this place, where it has any.
 #[tactic(auto, using(crate::proofs::Filling::run_steps))]
 pub(crate) fn run_for<'a>(
-    names: &Names,
+    names: &Vocabulary,
     args: &'a [Expr],
     e: &Expr,
     place: u128,
 ) -> Option<&'a [Expr]>
-    requires names { HasBuiltins names.now }
     ensures { with_run (names_in names.now) e.now (option_map (λ run. run.now) result) ≡ i.filled (names_in names.now) args.now e.now place }
 {
     if place >= args.len() as u128 {
@@ -74,8 +70,7 @@ pub(crate) fn run_for<'a>(
 }
 
 /// A run as one expression.
-pub(crate) fn as_one(alloc: Global, names: &Names, run: &[Expr]) -> Result<Expr, Built>
-    requires names { HasBuiltins names.now }
+pub(crate) fn as_one(alloc: Global, names: &Vocabulary, run: &[Expr]) -> Result<Expr, Built>
     ensures { Makes (i.as_one (names_in names.now) run.now) result }
 {
     match run {

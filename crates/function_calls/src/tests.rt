@@ -2,7 +2,6 @@ use crate::apply;
 use builtin_names::{make, names_with};
 use expr_tree::{Expr, Exprs, Text};
 use item_list::Items;
-use name_table::Names;
 use semantics::Builtin;
 use std::alloc::Global;
 use std::test::Fail;

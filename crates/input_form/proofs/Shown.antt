@@ -1,5 +1,5 @@
 -- One item more of a list that is shown.
-use Rattle.std.proofs.Common.{◌≡◌, ◌≢◌, refl, sym, ap, subst, ◌∙◌, ℕ, zero, suc, ◌+◌, ◌<◌, Bool, true, false, cond, List, [], ◌∷◌, ◌++◌, length, get_or, drop, arith, ne_eqb}
+use Rattle.std.proofs.Common.{◌≡◌, ◌≢◌, refl, ap, ◌∙◌, ℕ, zero, suc, ◌+◌, ◌<◌, Bool, true, false, cond, List, [], ◌∷◌, ◌++◌, length, get_or, drop, arith, ne_eqb}
 use Rattle.std.specs.Prelude.{◌==◌, codes}
 use Rattle.expr_tree.specs.Tree.{Tree, trees, integer, string, symbol, normal}
 use Rattle.expr_tree.proofs.Trees.{trees-drop}
@@ -8,7 +8,6 @@ use Rattle.script_text.specs.Bytes.{joined, each_after}
 use Rattle.script_text.specs.Spelling.{Spelling}
 use Rattle.syntax.specs.Shapes.{Shape, Pair}
 use Rattle.syntax.specs.Input.{Shown, shown, all_shown, all_at, text, sum_text, terms_after, term_after, negative_text, factors, pair_text}
-use Rattle.script_text.specs.Laws.{IsKept, AreKept}
 use Rattle.input_form.specs.Parts.{front, joined_from, sum_from, negative_from, level_at, term_at, factor_at}
 
 pub level_is : (spelling : Spelling) (shape : Sym → Shape) (e : Tree) → (shown spelling shape e).level ≡ level_at shape e
@@ -16,11 +15,6 @@ level_is spelling shape (integer n) = refl
 level_is spelling shape (string t) = refl
 level_is spelling shape (symbol x) = refl
 level_is spelling shape (normal h es) = refl
-
-pub kept_at : (count i : ℕ) (items : List Tree) (t : Tree) → i < length items → t ≡ get_or items i t → AreKept count (trees items) → IsKept count t
-kept_at count i [] t h is kept = absurd (omega arith)
-kept_at count zero (u ∷ us) t h is kept = subst (λ x. IsKept count x) (sym is) kept.0
-kept_at count (suc i) (u ∷ us) t h is kept = kept_at count i us t (omega arith) is kept.1
 
 module _ (spelling : Spelling) (shape : Sym → Shape) where
   abbrev pub shown_items : List Tree → List Shown
@@ -99,4 +93,4 @@ negative_end i = go (i == 0) (i == 1)
     go false true = refl
     go false false = refl
 
-pub ruleset shown_steps = (level_is, kept_at, joined_step, joined_end, sum_step, sum_end, negative_step, negative_end, pair_not_two)
+pub ruleset shown_steps = (level_is, joined_step, joined_end, sum_step, sum_end, negative_step, negative_end, pair_not_two)

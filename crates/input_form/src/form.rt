@@ -1,6 +1,5 @@
-ghost use Rattle.std.specs.Prelude.{◌≡◌, length};
+ghost use Rattle.std.specs.Prelude.{◌≡◌};
 ghost use Rattle.expr_tree.specs.Tree.{trees};
-ghost use Rattle.script_text.specs.Laws.{IsKept, AreKept};
 ghost use Rattle.syntax.specs.Input.{form_of, symbol_at_most, slot_number, is_integer, product_form, is_blank, named_form, unless_brackets, is_symbol, is_minus_one, is_slot_number};
 ghost use Rattle.input_form.specs.Rows.{shapes};
 ghost use Rattle.input_form.specs.Shapes.{as_form};
@@ -13,8 +12,6 @@ use name_table::Names;
 /// The form of head[items].
 #[tactic(auto, using(crate::proofs::Items::item_steps))]
 pub(crate) fn form_of(head: &Expr, items: &[Expr], names: &Names) -> Form
-    requires head { IsKept (length names.now.texts) head.now }
-    requires items { AreKept (length names.now.texts) (trees items.now) }
     ensures { as_form result ≡ form_of (shapes names.now.texts) head.now (trees items.now) }
 {
     let count = items.len();
@@ -42,7 +39,6 @@ fn unless_brackets(fits: bool, form: Form) -> Form
 /// The form of Pattern[items].
 #[tactic(auto, using(crate::proofs::Items::item_steps))]
 fn named_form(items: &[Expr], names: &Names) -> Form
-    requires { AreKept (length names.now.texts) (trees items.now) }
     ensures { as_form result ≡ named_form (shapes names.now.texts) (trees items.now) }
 {
     match items {
@@ -62,7 +58,6 @@ fn named_form(items: &[Expr], names: &Names) -> Form
 /// Whether a blank is printed as a sign.
 #[tactic(auto, using(crate::proofs::Items::item_steps))]
 fn is_blank(e: &Expr, names: &Names) -> bool
-    requires { IsKept (length names.now.texts) e.now }
     ensures { result ≡ is_blank (shapes names.now.texts) e.now }
 {
     match e.node() {

@@ -1,6 +1,5 @@
-ghost use Rattle.std.specs.Prelude.{◌≡◌, ◌++◌, ◌<◌, length, IfOk, OnOk};
+ghost use Rattle.std.specs.Prelude.{◌≡◌, ◌++◌, IfOk, OnOk};
 ghost use Rattle.expr_tree.specs.Tree.{trees};
-ghost use Rattle.script_text.specs.Laws.{IsKept, AreKept};
 ghost use Rattle.script_text.specs.Spelling.{by_texts};
 ghost use Rattle.semantics.specs.Texts.{names_of};
 ghost use Rattle.syntax.specs.Shapes.{shape_in};
@@ -21,7 +20,6 @@ use std::alloc::{AllocError, Global};
 /// The input form of an expression.
 #[tactic(auto, using(crate::proofs::Rows::shapes_are))]
 pub fn input(alloc: Global, e: &Expr, names: &Names) -> Result<Text, AllocError>
-    requires { IsKept (length names.now.texts) e.now }
     ensures { IfOk result (λ text. text ≡ input (by_texts names.now.texts) (shape_in (names_of names.now.texts)) e.now) }
 {
     let mut buffer = Text::new(alloc);
@@ -31,7 +29,6 @@ pub fn input(alloc: Global, e: &Expr, names: &Names) -> Result<Text, AllocError>
 
 /// The level of an expression.
 fn level_of(e: &Expr, names: &Names) -> u32
-    requires { IsKept (length names.now.texts) e.now }
     ensures { result ≡ level_at (shapes names.now.texts) e.now }
 {
     match e.node() {
@@ -51,7 +48,6 @@ fn put_text(
     e: &Expr,
     names: &Names,
 ) -> Result<(), AllocError>
-    requires { IsKept (length names.now.texts) e.now }
     ensures { OnOk result (buffer.new ≡ buffer.old ++ text_by names.now.texts level e.now) }
 {
     if level_of(e, names) < level {
@@ -67,7 +63,6 @@ fn put_text(
 #[cycle(input)]
 #[tactic(auto, using(expr_tree::proofs::Callers::tree_steps, crate::proofs::Shown::shown_steps))]
 fn put_open(alloc: Global, buffer: &mut Text, e: &Expr, names: &Names) -> Result<(), AllocError>
-    requires { IsKept (length names.now.texts) e.now }
     ensures { OnOk result (buffer.new ≡ buffer.old ++ (shown_by names.now.texts e.now).text) }
 {
     match e.node() {
@@ -93,8 +88,6 @@ fn put_form(
     items: &[Expr],
     names: &Names,
 ) -> Result<(), AllocError>
-    requires head { IsKept (length names.now.texts) head.now }
-    requires items { AreKept (length names.now.texts) (trees items.now) }
     ensures { OnOk result (buffer.new ≡ buffer.old ++ form_text (as_form form) (shown_by names.now.texts head.now) (all_shown_by names.now.texts (trees items.now))) }
 {
     match form {
@@ -154,7 +147,6 @@ fn put_joined(
     items: &[Expr],
     names: &Names,
 ) -> Result<(), AllocError>
-    requires { AreKept (length names.now.texts) (trees items.now) }
     ensures { OnOk result (buffer.new ≡ buffer.old ++ together between.now level (all_shown_by names.now.texts (trees items.now))) }
 {
     for (i, item) in items.iter().enumerate() {
@@ -174,7 +166,6 @@ fn put_pair(
     items: &[Expr],
     names: &Names,
 ) -> Result<(), AllocError>
-    requires { AreKept (length names.now.texts) (trees items.now) }
     ensures { OnOk result (buffer.new ≡ buffer.old ++ pair_text (as_pair pair) (all_shown_by names.now.texts (trees items.now))) }
 {
     match items {
@@ -196,7 +187,6 @@ fn put_sum(
     items: &[Expr],
     names: &Names,
 ) -> Result<(), AllocError>
-    requires { AreKept (length names.now.texts) (trees items.now) }
     ensures { OnOk result (buffer.new ≡ buffer.old ++ sum_text (all_shown_by names.now.texts (trees items.now))) }
 {
     for (i, item) in items.iter().enumerate() {
@@ -215,7 +205,6 @@ fn put_term(
     item: &Expr,
     names: &Names,
 ) -> Result<(), AllocError>
-    requires { IsKept (length names.now.texts) item.now }
     ensures { OnOk result (buffer.new ≡ buffer.old ++ term_at i (text_by names.now.texts 18 item.now)) }
 {
     if i == 0 {
@@ -252,7 +241,6 @@ fn put_negative(
     items: &[Expr],
     names: &Names,
 ) -> Result<(), AllocError>
-    requires { AreKept (length names.now.texts) (trees items.now) }
     ensures { OnOk result (buffer.new ≡ buffer.old ++ negative_text (all_shown_by names.now.texts (trees items.now))) }
 {
     for (i, item) in items.iter().enumerate() {
@@ -271,7 +259,6 @@ fn put_factor(
     item: &Expr,
     names: &Names,
 ) -> Result<(), AllocError>
-    requires { IsKept (length names.now.texts) item.now }
     ensures { OnOk result (buffer.new ≡ buffer.old ++ factor_at i (text_by names.now.texts 20 item.now) (text_by names.now.texts 19 item.now)) }
 {
     if i == 0 {

@@ -1,5 +1,4 @@
-ghost use Rattle.std.specs.Prelude.{◌≡◌, ◌<◌, length};
-ghost use Rattle.script_text.specs.Laws.{IsKept};
+ghost use Rattle.std.specs.Prelude.{◌≡◌};
 ghost use Rattle.syntax.specs.Input.{shape_at};
 ghost use Rattle.input_form.specs.Rows.{named_shape, shapes};
 ghost use Rattle.input_form.specs.Shapes.{as_shape};
@@ -10,7 +9,6 @@ use name_table::Names;
 
 /// The shape of a head.
 pub(crate) fn shape_at(head: &Expr, names: &Names) -> Shape
-    requires { IsKept (length names.now.texts) head.now }
     ensures { as_shape result ≡ shape_at (shapes names.now.texts) head.now }
 {
     match head.node() {
@@ -22,7 +20,6 @@ pub(crate) fn shape_at(head: &Expr, names: &Names) -> Shape
 /// The shape of a symbol. A generated symbol has no row.
 #[tactic(auto, using(crate::proofs::Rows::row_steps))]
 fn shape_of(symbol: Sym, names: &Names) -> Shape
-    requires { symbol.base < length names.now.texts }
     ensures { as_shape result ≡ shapes names.now.texts symbol }
 {
     if symbol.number == 0 {

@@ -1,5 +1,5 @@
 use crate::{input, value_text};
-use expr_tree::{Expr, Text};
+use expr_tree::{Expr, Sym, Text};
 use item_list::Items;
 use name_table::Names;
 use std::test::Fail;
@@ -23,6 +23,21 @@ fn a_negative_term_has_its_sign_in_front(rt: HostRuntime) -> Result<(), Fail> {
             let text = input(rt.alloc(), &sum, &names)?;
             assert_eq!(rt; text.as_str(), "3 - 2");
         }
+    }
+    Ok(())
+}
+
+#[test]
+fn a_base_that_is_not_kept_shows_as_nothing(rt: HostRuntime) -> Result<(), Fail> {
+    let names = Names::of_texts(rt.alloc(), &Items::new(rt.alloc()), &Items::new(rt.alloc()))?;
+    let head = Expr::symbol(Sym { base: 7, number: 0 });
+    let mut items = Items::new(rt.alloc());
+    items.push(Expr::symbol(Sym { base: 7, number: 2 }))?;
+    if let Ok(call) = Expr::normal(rt.alloc(), head, items) {
+        let shown = value_text(rt.alloc(), &call, &names)?;
+        assert_eq!(rt; shown.as_str(), "[$2]");
+        let text = input(rt.alloc(), &call, &names)?;
+        assert_eq!(rt; text.as_str(), "[$2]");
     }
     Ok(())
 }

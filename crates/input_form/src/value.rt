@@ -1,6 +1,5 @@
-ghost use Rattle.std.specs.Prelude.{◌≡◌, ◌<◌, length, IfOk};
+ghost use Rattle.std.specs.Prelude.{◌≡◌, IfOk};
 ghost use Rattle.expr_tree.specs.Tree.{trees};
-ghost use Rattle.script_text.specs.Laws.{IsKept, AreKept};
 ghost use Rattle.script_text.specs.Spelling.{by_texts};
 ghost use Rattle.semantics.specs.Texts.{names_of};
 ghost use Rattle.syntax.specs.Lines.{value_text};
@@ -24,7 +23,6 @@ enum Asked {
 /// input form.
 #[tactic(auto, using(expr_tree::proofs::Callers::tree_steps, crate::proofs::Values::called))]
 pub fn value_text(alloc: Global, value: &Expr, names: &Names) -> Result<Text, AllocError>
-    requires { IsKept (length names.now.texts) value.now }
     ensures { IfOk result (λ text. text ≡ value_text (by_texts names.now.texts) (names_of names.now.texts) value.now) }
 {
     match value.node() {
@@ -40,7 +38,7 @@ pub fn value_text(alloc: Global, value: &Expr, names: &Names) -> Result<Text, Al
 }
 
 /// What is shown of a call, by what its head asks for.
-#[tactic(auto, using(expr_tree::proofs::Callers::tree_steps, crate::proofs::Shown::kept_at, crate::proofs::Values::value_steps))]
+#[tactic(auto, using(expr_tree::proofs::Callers::tree_steps, crate::proofs::Values::value_steps))]
 fn text_asked(
     alloc: Global,
     asked: Asked,
@@ -48,8 +46,6 @@ fn text_asked(
     items: &[Expr],
     names: &Names,
 ) -> Result<Text, AllocError>
-    requires value { IsKept (length names.now.texts) value.now }
-    requires items { AreKept (length names.now.texts) (trees items.now) }
     ensures { IfOk result (λ text. text ≡ value_as names.now.texts asked value.now (trees items.now)) }
 {
     match items {
@@ -65,7 +61,6 @@ fn text_asked(
 /// What a symbol asks for.
 #[tactic(auto, using(crate::proofs::Rows::row_steps))]
 fn form_asked(symbol: Sym, names: &Names) -> Asked
-    requires { symbol.base < length names.now.texts }
     ensures { result ≡ asked names.now.texts symbol }
 {
     if symbol.number == 0 {

@@ -19,7 +19,12 @@ use Rattle.semantics.specs.Ends.{shown_end}
 use Rattle.journal.specs.declared.recover.Recover.{Recover}
 use Rattle.journal.specs.Places.{nth, change_at, each_from, member, is_some}
 use Rattle.journal.specs.Closure.{Bundle}
-use Rattle.journal.specs.Entry.{Text, Wait, Event, Item, Handed, Posted}
+use Rattle.journal.specs.declared.item.Status.{Status}
+use Rattle.journal.specs.declared.item.Status.TheVariants.{Waiting, Running, Done, Dropped}
+use Rattle.journal.specs.declared.event.Wait.{Wait}
+use Rattle.journal.specs.declared.event.Event.{Event}
+use Rattle.journal.specs.declared.item.Item.{Item}
+use Rattle.journal.specs.Entry.{Text, Handed, Posted}
 
 -- what does not change in a run: `shown` is the text of a value as an Out line shows it
 pub record Setup : Type 0 where
@@ -28,12 +33,6 @@ pub record Setup : Type 0 where
   pub kernels : ℕ
   pub limits : Limits
   pub recovery : Recover
-
-pub data Status : Type 0 where
-  Waiting : Status
-  Running : ℕ → Status
-  Done : Tree → Status
-  Dropped : Status
 
 pub record Queued : Type 0 where
   pub item : Item

@@ -18,7 +18,9 @@ use Rattle.semantics.specs.Eval.{same_symbols}
 use Rattle.journal.specs.Places.{nth, given, when, is_some}
 use Rattle.journal.specs.Closure.{Bundle, install}
 use Rattle.journal.specs.declared.loss.Loss.{Loss}
-use Rattle.journal.specs.Entry.{Event, Item, Handed, Posted}
+use Rattle.journal.specs.declared.event.Event.{Event}
+use Rattle.journal.specs.declared.item.Item.{Item}
+use Rattle.journal.specs.Entry.{Handed, Posted}
 use Rattle.journal.specs.Core.{Setup, in_mode, null}
 
 pub data Attempt : Type 0 where

@@ -20,7 +20,8 @@ use Rattle.semantics.specs.Lists.{count_up}
 use Rattle.semantics.specs.Sections.{is_option, without_option, same_share}
 use Rattle.journal.specs.Places.{member}
 use Rattle.journal.specs.Closure.{is_shared}
-use Rattle.journal.specs.Entry.{Wait, Item}
+use Rattle.journal.specs.declared.event.Wait.{Wait}
+use Rattle.journal.specs.declared.item.Item.{Item}
 use Rattle.journal.specs.Core.{Setup, Core, Kernel, names_item, count, failed, null}
 use Rattle.journal.specs.Cuts.{Method, Coarsest, Finest, Per, cut}
 

@@ -9,4 +9,6 @@ pub mod Run
 pub mod Spans
 pub mod Quiet
 pub mod Lines
+pub mod Members
+pub mod Beside
 pub mod Transcript

@@ -9,7 +9,10 @@ use Rattle.script_text.specs.Bytes.{each_after}
 use Rattle.script_text.specs.Spelling.{Spelling, symbol_text}
 use Rattle.script_text.specs.Full.{full, quoted}
 use Rattle.journal.specs.declared.loss.Loss.{Loss}
-use Rattle.journal.specs.Entry.{Text, Wait, Event, Entry}
+use Rattle.journal.specs.declared.event.Wait.{Wait}
+use Rattle.journal.specs.declared.event.Event.{Event}
+use Rattle.journal.specs.declared.event.Entry.{Entry}
+use Rattle.journal.specs.Entry.{Text}
 
 -- each with a space in front
 abbrev pub spaced : List Text → Text

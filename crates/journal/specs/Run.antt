@@ -20,7 +20,11 @@ use Rattle.semantics.specs.Ends.{aborted, shown_end}
 use Rattle.semantics.specs.Eval.{same_symbols}
 use Rattle.journal.specs.Places.{given}
 use Rattle.journal.specs.Closure.{bundle, symbols_of, symbols_of_all}
-use Rattle.journal.specs.Entry.{Text, Wait, Event, Entry, Item, Handed, Posted}
+use Rattle.journal.specs.declared.event.Wait.{Wait}
+use Rattle.journal.specs.declared.event.Event.{Event}
+use Rattle.journal.specs.declared.event.Entry.{Entry}
+use Rattle.journal.specs.declared.item.Item.{Item}
+use Rattle.journal.specs.Entry.{Text, Handed, Posted}
 use Rattle.journal.specs.Core.{Setup, Core, start, step, all_free, wait_reply, in_mode, count, null}
 use Rattle.journal.specs.Follow.{Plan, all_run}
 use Rattle.journal.specs.Forms.{Next, Replies, Awaits, Form, Answers, Submits, form}

@@ -7,7 +7,8 @@ use Rattle.std.specs.Prelude.{ℕ, suc, ◌<◌, ◌≡◌, List, [], ◌∷◌,
 use Rattle.expr_tree.specs.declared.sym.Sym.{Sym}
 use Rattle.expr_tree.specs.Tree.{Tree}
 use Rattle.expr_tree.specs.Substitution.{among}
-use Rattle.journal.specs.Entry.{Event, Posted}
+use Rattle.journal.specs.declared.event.Event.{Event}
+use Rattle.journal.specs.Entry.{Posted}
 use Rattle.journal.specs.Core.{Setup, Core, item_at, effect, results_given}
 
 -- a section stands from the place of its Enter up to that of the Leave or Lose that ends it, or to the journal's end

@@ -1,6 +1,6 @@
 -- The bytes that a script and a journal define.
 --     script_names          the texts of the bases of a script's symbols, in the order of names
---     setup_of              what does not change in a run, by these texts and the options
+--     opening               what a run begins with, by these texts and the options
 --     AreReadings           what the texts of cells are read as
 --     line_text             the bytes of a line of a transcript
 --     transcript_text       the bytes of a transcript
@@ -12,15 +12,17 @@ use Rattle.semantics.specs.Builtin.{rows}
 use Rattle.semantics.specs.Texts.{row_text, names_of}
 use Rattle.syntax.specs.Tokens.{names_in, lex}
 use Rattle.syntax.specs.Reads.{Reads, IsOffset}
-use Rattle.syntax.specs.Lines.{value_text, out_line, syntax_line, print_line}
+use Rattle.syntax.specs.Lines.{out_line, syntax_line, print_line}
 use Rattle.journal.specs.Places.{given}
-use Rattle.journal.specs.Entry.{Text, Entry}
+use Rattle.journal.specs.declared.event.Entry.{Entry}
+use Rattle.journal.specs.Entry.{Text}
 use Rattle.journal.specs.declared.recover.Recover.{Recover}
 use Rattle.journal.specs.Core.{Setup}
 use Rattle.journal.specs.Follow.{Plan}
 use Rattle.journal.specs.Run as Run
 use Rattle.journal.specs.Run.{Reading, Unread, Line, Printed, Out, Syntax, Listed, Legal, transcript, written}
 use Rattle.journal.specs.Lines.{entry_line}
+use Rattle.journal.specs.Members.{Opening, setup_of}
 
 -- the names in the tokens of cells
 abbrev pub cell_names : List Text → List Text
@@ -32,13 +34,12 @@ abbrev pub script_names : List Text → List Text
 script_names texts = bases (map row_text rows ++ cell_names texts)
 
 -- with so many kernels and steps, and a way of recovery
-abbrev pub setup_of : List Text → ℕ → ℕ → Recover → Setup
-setup_of texts kernels steps recovery =
+abbrev pub opening : List Text → ℕ → ℕ → Recover → Opening
+opening texts kernels steps recovery =
     record {
-      names = names_of texts;
-      shown = value_text (by_texts texts) (names_of texts);
       kernels = kernels;
       limits = record { recursion = 256; iteration = 4096; steps = steps; size = 4000000; depth = 512 };
+      texts = texts;
       recovery = recovery;
     }
 
@@ -72,6 +73,6 @@ transcript_text texts set with_journal readings journal m = given (transcript se
 pub record Explains (kernels steps : ℕ) (recovery : Recover) (plan : Plan) (with_journal : Bool) (script : Text) (journal : List Entry) (bytes : Text) : Type 0 where
   pub readings : List Reading
   pub read : AreReadings (script_names (cells script)) (cells script) readings
-  pub legal : Legal (setup_of (script_names (cells script)) kernels steps recovery) plan readings journal
+  pub legal : Legal (setup_of (opening (script_names (cells script)) kernels steps recovery)) plan readings journal
   pub bytes_written :
-      transcript_text (script_names (cells script)) (setup_of (script_names (cells script)) kernels steps recovery) with_journal readings journal (length readings) ≡ Some bytes
+      transcript_text (script_names (cells script)) (setup_of (opening (script_names (cells script)) kernels steps recovery)) with_journal readings journal (length readings) ≡ Some bytes

@@ -1,7 +1,7 @@
 -- A kernel's table of definitions.
 --     definitions_in        the definitions in a table
 --     IsDefs                what is true of every table
-use Rattle.std.specs.Prelude.{◌≡◌, ◌≤◌, map, length}
+use Rattle.std.specs.Prelude.{◌≡◌, ◌≤◌, [], map, length}
 use Rattle.semantics.specs.Definitions.{Definitions}
 use Rattle.kernel_defs.specs.Chains.{listed}
 use Rattle.kernel_defs.specs.Table.{entries_in, IsTable}
@@ -14,3 +14,4 @@ pub record IsDefs (t : Inside) : Type 0 where
   pub width : length t.chains.items ≡ 4096
   pub table : IsTable 0 (map listed t.chains.items)
   pub number : t.module_number ≤ 999999999999999999
+  pub no_rules : t.no_rules ≡ []

@@ -2,17 +2,18 @@
 ghost use Rattle.std.specs.Prelude.{◌≡◌, ◌∷◌, [], List, Option, MatchOption, IfSome, IfOk, OnOk, OnErr};
 ghost use Rattle.std.specs.Option.{option_copied, option_map};
 ghost use Rattle.semantics.specs.Assign as assign;
+ghost use Rattle.semantics.specs.Changes as changes;
 ghost use Rattle.semantics.specs.Definitions as d;
 ghost use Rattle.builtin_names.specs.Attributes.{attributes_in};
-ghost use Rattle.builtin_names.specs.Named.{HasBuiltins, names_in};
+ghost use Rattle.builtin_names.specs.Named.{names_in};
 ghost use Rattle.kernel_defs.specs.Targets.{place_of};
 ghost use Rattle.kernel_defs.specs.Chains.{entry_of, listed, behind, without_first};
 ghost use Rattle.kernel_defs.specs.Definition.{definition_of};
 
 use crate::definition::Definition;
 use crate::targets::Place;
+use builtin_names::Vocabulary;
 use expr_tree::{Attrs, Expr, Sym};
-use name_table::Names;
 use std::alloc::{AllocError, Global};
 use std::mem;
 
@@ -87,17 +88,33 @@ impl Entry {
     /// Attaches a value or a rule. An `Err` leaves the entry unchanged.
     pub(crate) fn attach(
         &mut self,
-        names: &Names,
+        alloc: Global,
+        names: &Vocabulary,
         place: Place,
         left: Expr,
         right: Expr,
     ) -> Result<(), AllocError>
-        requires { HasBuiltins names.now }
         ensures symbol { self.new.symbol ≡ self.old.symbol }
         ensures ok { OnOk result (definition_of self.new.definition ≡ assign.attached (names_in names.now) (place_of place) left right (definition_of self.old.definition)) }
         ensures err { OnErr result (definition_of self.new.definition ≡ definition_of self.old.definition) }
     {
-        self.definition.attach(names, place, left, right)
+        self.definition.attach(alloc, names, place, left, right)
+    }
+
+    /// Takes away the own value, for a symbol as left side, or the rules with it. An `Err` leaves the entry unchanged.
+    pub(crate) fn take_away(&mut self, alloc: Global, left: &Expr) -> Result<(), AllocError>
+        ensures symbol { self.new.symbol ≡ self.old.symbol }
+        ensures ok { OnOk result (definition_of self.new.definition ≡ changes.without_left left.now (definition_of self.old.definition)) }
+        ensures err { OnErr result (definition_of self.new.definition ≡ definition_of self.old.definition) }
+    {
+        self.definition.take_away(alloc, left)
+    }
+
+    /// The same entry with nothing behind it.
+    fn copy(&self, alloc: Global) -> Result<Box<Entry>, AllocError>
+        ensures { IfOk result (λ e. entry_of e.value ≡ entry_of self.now) }
+    {
+        Entry::boxed(alloc, self.symbol, self.definition.copy(alloc)?)
     }
 }
 
@@ -149,6 +166,21 @@ impl Chain {
         while let Some(entry) = passed.pop() {
             self.push(entry);
         }
+    }
+
+    /// The same entries.
+    pub(crate) fn copy(&self, alloc: Global) -> Result<Chain, AllocError>
+        ensures { IfOk result (λ c. listed c ≡ listed self.now) }
+    {
+        let mut passed = Chain::End;
+        let mut at = self;
+        while let Chain::Link(entry) = at {
+            passed.push(entry.copy(alloc)?);
+            at = &entry.rest;
+        }
+        let mut copy = Chain::End;
+        copy.push_all(passed);
+        Ok(copy)
     }
 
     /// Takes the first entry of a symbol out.

@@ -6,7 +6,7 @@ ghost use Rattle.semantics.specs.Changes as changes;
 ghost use Rattle.semantics.specs.Definitions as d;
 ghost use Rattle.semantics.specs.Play as play;
 ghost use Rattle.builtin_names.specs.Attributes.{attributes_in};
-ghost use Rattle.builtin_names.specs.Named.{HasBuiltins, names_in};
+ghost use Rattle.builtin_names.specs.Named.{names_in};
 ghost use Rattle.kernel_defs.specs.Definition.{definition_of};
 ghost use Rattle.kernel_defs.specs.Locals.{without};
 ghost use Rattle.kernel_defs.specs.Targets.{place_of};
@@ -16,14 +16,13 @@ use crate::definition::Definition;
 use crate::defs::Defs;
 use crate::first::{definition_at_first, is_first};
 use crate::targets::{Place, Target};
+use builtin_names::Vocabulary;
 use expr_tree::{Attrs, Expr, Sym};
-use name_table::Names;
 use rule_store::Rules;
 use std::alloc::{AllocError, Global};
 
 /// An entry that says what the built-in table does.
-fn first_entry(alloc: Global, names: &Names, symbol: Sym) -> Result<Box<Entry>, AllocError>
-    requires { HasBuiltins names.now }
+fn first_entry(alloc: Global, names: &Vocabulary, symbol: Sym) -> Result<Box<Entry>, AllocError>
     ensures symbol { IfOk result (λ e. e.value.symbol ≡ symbol) }
     ensures definition { IfOk result (λ e. definition_of e.value.definition ≡ d.first_definition (names_in names.now) symbol) }
 {
@@ -33,8 +32,7 @@ fn first_entry(alloc: Global, names: &Names, symbol: Sym) -> Result<Box<Entry>, 
 impl Defs {
     /// Puts an entry in, where it says more than the built-in table.
     #[tactic(auto, using(crate::proofs::Written::store_steps))]
-    pub(crate) fn store(&mut self, names: &Names, entry: Box<Entry>)
-        requires names { HasBuiltins names.now }
+    pub(crate) fn store(&mut self, names: &Vocabulary, entry: Box<Entry>)
         requires absent { d.look_up self.old.entries entry.value.symbol ≡ None }
         ensures { self.new ≡ d.put (names_in names.now) self.old entry.value.symbol (definition_of entry.value.definition) }
     {
@@ -49,10 +47,9 @@ impl Defs {
     pub(crate) fn take_or_first(
         &mut self,
         alloc: Global,
-        names: &Names,
+        names: &Vocabulary,
         symbol: Sym,
     ) -> Result<Box<Entry>, AllocError>
-        requires { HasBuiltins names.now }
         ensures symbol { IfOk result (λ e. e.value.symbol ≡ symbol) }
         ensures definition { IfOk result (λ e. definition_of e.value.definition ≡ d.stored (names_in names.now) self.old symbol) }
         ensures rest { OnOk result (self.new ≡ without self.old symbol) }
@@ -69,11 +66,10 @@ impl Defs {
     pub fn put(
         &mut self,
         alloc: Global,
-        names: &Names,
+        names: &Vocabulary,
         symbol: Sym,
         definition: Definition,
     ) -> Result<(), AllocError>
-        requires { HasBuiltins names.now }
         ensures ok { OnOk result (self.new ≡ d.put (names_in names.now) self.old symbol (definition_of definition)) }
         ensures err { OnErr result (self.new ≡ self.old) }
     {
@@ -88,11 +84,10 @@ impl Defs {
     pub fn set_own(
         &mut self,
         alloc: Global,
-        names: &Names,
+        names: &Vocabulary,
         symbol: Sym,
         value: Expr,
     ) -> Result<(), AllocError>
-        requires { HasBuiltins names.now }
         ensures ok { OnOk result (self.new ≡ play.written (names_in names.now) self.old symbol (record (d.definition_of (names_in names.now) self.old symbol) { own = Some value })) }
         ensures err { OnErr result (self.new ≡ self.old) }
     {
@@ -104,8 +99,7 @@ impl Defs {
 
     /// Takes away all that a symbol has but its attributes.
     #[tactic(auto, using(crate::proofs::Written::stored_steps))]
-    pub fn clear(&mut self, alloc: Global, names: &Names, symbol: Sym)
-        requires { HasBuiltins names.now }
+    pub fn clear(&mut self, alloc: Global, names: &Vocabulary, symbol: Sym)
         ensures { self.new ≡ play.written (names_in names.now) self.old symbol (changes.cleared (d.definition_of (names_in names.now) self.old symbol)) }
     {
         if let Some(mut entry) = self.take(symbol) {
@@ -114,15 +108,45 @@ impl Defs {
         }
     }
 
-    /// Takes away the own value, for a symbol as left side, or the rules with this left side.
-    #[tactic(auto, using(crate::proofs::Written::stored_steps))]
-    pub fn take_away(&mut self, names: &Names, symbol: Sym, left: &Expr)
-        requires { HasBuiltins names.now }
-        ensures { self.new ≡ play.written (names_in names.now) self.old symbol (changes.without_left left.now (d.definition_of (names_in names.now) self.old symbol)) }
+    /// Takes away the own value, for a symbol as left side, or the rules with this left side. An `Err` leaves the definitions
+    /// unchanged.
+    pub fn take_away(
+        &mut self,
+        alloc: Global,
+        names: &Vocabulary,
+        symbol: Sym,
+        left: &Expr,
+    ) -> Result<(), AllocError>
+        ensures ok { OnOk result (self.new ≡ play.written (names_in names.now) self.old symbol (changes.without_left left.now (d.definition_of (names_in names.now) self.old symbol))) }
+        ensures err { OnErr result (self.new ≡ self.old) }
     {
-        if let Some(mut entry) = self.take(symbol) {
-            entry.definition.take_away(left);
-            self.store(names, entry);
+        match self.take(symbol) {
+            Some(entry) => self.take_from(alloc, names, entry, left),
+            None => Ok(()),
+        }
+    }
+
+    /// Takes a value or rules away from an entry that was taken out, and puts it in.
+    fn take_from(
+        &mut self,
+        alloc: Global,
+        names: &Vocabulary,
+        mut entry: Box<Entry>,
+        left: &Expr,
+    ) -> Result<(), AllocError>
+        requires absent { d.look_up self.old.entries entry.value.symbol ≡ None }
+        ensures ok { OnOk result (self.new ≡ d.put (names_in names.now) self.old entry.value.symbol (changes.without_left left.now (definition_of entry.value.definition))) }
+        ensures err { OnErr result (self.new ≡ record self.old { entries = d.add_entry self.old.entries entry.value.symbol (definition_of entry.value.definition) }) }
+    {
+        match entry.take_away(alloc, left) {
+            Ok(()) => {
+                self.store(names, entry);
+                Ok(())
+            }
+            Err(error) => {
+                self.link(entry);
+                Err(error)
+            }
         }
     }
 
@@ -140,11 +164,10 @@ impl Defs {
     pub fn set_attrs(
         &mut self,
         alloc: Global,
-        names: &Names,
+        names: &Vocabulary,
         symbol: Sym,
         attrs: Attrs,
     ) -> Result<(), AllocError>
-        requires { HasBuiltins names.now }
         ensures ok { OnOk result (self.new ≡ play.written (names_in names.now) self.old symbol (record (d.definition_of (names_in names.now) self.old symbol) { attributes = attributes_in attrs })) }
         ensures err { OnErr result (self.new ≡ self.old) }
     {
@@ -159,11 +182,10 @@ impl Defs {
     pub fn make(
         &mut self,
         alloc: Global,
-        names: &Names,
+        names: &Vocabulary,
         symbol: Sym,
         value: Option<Expr>,
     ) -> Result<(), AllocError>
-        requires { HasBuiltins names.now }
         ensures ok { OnOk result (self.new ≡ play.written (names_in names.now) self.old symbol (play.local_definition (record { symbol = symbol; value = value }))) }
         ensures err { OnErr result (self.new ≡ self.old) }
     {
@@ -183,20 +205,19 @@ impl Defs {
     pub fn attach(
         &mut self,
         alloc: Global,
-        names: &Names,
+        names: &Vocabulary,
         target: Target,
         left: Expr,
         right: Expr,
     ) -> Result<(), AllocError>
-        requires { HasBuiltins names.now }
         ensures ok { OnOk result (self.new ≡ play.written (names_in names.now) self.old target.symbol (assign.attached (names_in names.now) (place_of target.place) left right (d.definition_of (names_in names.now) self.old target.symbol))) }
         ensures err { OnErr result (self.new ≡ self.old) }
     {
         match self.take(target.symbol) {
-            Some(entry) => self.attach_to(names, entry, target.place, left, right),
+            Some(entry) => self.attach_to(alloc, names, entry, target.place, left, right),
             None => {
                 let mut entry = first_entry(alloc, names, target.symbol)?;
-                entry.attach(names, target.place, left, right)?;
+                entry.attach(alloc, names, target.place, left, right)?;
                 self.store(names, entry);
                 Ok(())
             }
@@ -206,18 +227,18 @@ impl Defs {
     /// Attaches a value or a rule to an entry that was taken out, and puts it in.
     fn attach_to(
         &mut self,
-        names: &Names,
+        alloc: Global,
+        names: &Vocabulary,
         mut entry: Box<Entry>,
         place: Place,
         left: Expr,
         right: Expr,
     ) -> Result<(), AllocError>
-        requires names { HasBuiltins names.now }
         requires absent { d.look_up self.old.entries entry.value.symbol ≡ None }
         ensures ok { OnOk result (self.new ≡ d.put (names_in names.now) self.old entry.value.symbol (assign.attached (names_in names.now) (place_of place) left right (definition_of entry.value.definition))) }
         ensures err { OnErr result (self.new ≡ record self.old { entries = d.add_entry self.old.entries entry.value.symbol (definition_of entry.value.definition) }) }
     {
-        match entry.attach(names, place, left, right) {
+        match entry.attach(alloc, names, place, left, right) {
             Ok(()) => {
                 self.store(names, entry);
                 Ok(())

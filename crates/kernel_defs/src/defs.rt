@@ -1,19 +1,19 @@
 //! A kernel's table of definitions.
-ghost use Rattle.std.specs.Prelude.{◌≡◌, ◌≤◌, ◌<◌, ◌∷◌, ◌++◌, [], List, length, map, IfOk, IfSome, OnOk, OnErr, MatchOption, Some, None};
+ghost use Rattle.std.specs.Prelude.{◌≡◌, ◌≤◌, ◌<◌, [], length, map, IfOk, IfSome, MatchOption, None};
 ghost use Rattle.std.specs.Option.{option_copied, option_map};
 ghost use Rattle.semantics.specs.Definitions as d;
 ghost use Rattle.semantics.specs.Play as play;
 ghost use Rattle.kernel_defs.specs.Definition.{definition_of};
 ghost use Rattle.kernel_defs.specs.Chains.{listed};
 ghost use Rattle.kernel_defs.specs.Table.{slot, AreEmpty, Ascends};
-ghost use Rattle.shared_calls.specs.View.{shared_symbol};
 ghost use Rattle.kernel_defs.specs.Locals.{without};
 
 use crate::chain::{Chain, Entry};
 use crate::definition::Definition;
 use expr_tree::{Sym, Syms};
 use item_list::Items;
-use shared_calls::{Shared, SharedSymbol};
+use rule_store::Rules;
+use shared_calls::Shared;
 use std::alloc::{AllocError, Global};
 use std::marker::Model;
 
@@ -30,6 +30,8 @@ pub struct Defs {
     shared: Shared,
     named: Syms,
     module_number: u64,
+    /// What a symbol without rules has.
+    no_rules: Rules,
 }
 
 impl Model for Defs {
@@ -69,6 +71,29 @@ fn empty_chains(alloc: Global) -> Result<Vec<Chain>, AllocError>
     Ok(chains)
 }
 
+/// The same chains in a list of their own.
+fn copies_of(alloc: Global, chains: &[Chain]) -> Result<Vec<Chain>, AllocError>
+    ensures len { IfOk result (λ cs. length cs.items ≡ length chains.now) }
+    ensures same { IfOk result (λ cs. map listed cs.items ≡ map listed chains.now) }
+{
+    let mut copies = Vec::with_capacity(alloc, chains.len())?;
+    for chain in chains {
+        copies.push(chain.copy(alloc)?)?;
+    }
+    Ok(copies)
+}
+
+/// The same symbols in a list of their own.
+pub fn symbols_of(alloc: Global, symbols: &[Sym]) -> Result<Syms, AllocError>
+    ensures { IfOk result (λ ss. ss ≡ symbols.now) }
+{
+    let mut copies = Items::new(alloc);
+    for symbol in symbols {
+        copies.push(*symbol)?;
+    }
+    Ok(copies)
+}
+
 impl Defs {
     /// The definitions at the start: nothing but the built-in table.
     pub fn new(alloc: Global) -> Result<Defs, AllocError>
@@ -79,7 +104,29 @@ impl Defs {
             shared: Shared::new(alloc),
             named: Items::new(alloc),
             module_number: 1,
+            no_rules: Rules::new(alloc),
         })
+    }
+
+    /// The same definitions. Values and rules are shared, so this takes a time that depends on the number of symbols with a
+    /// definition, and not on what they have.
+    pub fn copy(&self, alloc: Global) -> Result<Defs, AllocError>
+        ensures { IfOk result (λ t. t ≡ self.now) }
+    {
+        Ok(Defs {
+            chains: copies_of(alloc, self.chains.as_slice())?,
+            shared: self.shared.copy(alloc)?,
+            named: symbols_of(alloc, self.named.as_slice())?,
+            module_number: self.module_number,
+            no_rules: Rules::new(alloc),
+        })
+    }
+
+    /// No rules, to lend.
+    pub(crate) fn no_rules(&self) -> &Rules
+        ensures { result.now ≡ [] }
+    {
+        &self.no_rules
     }
 
     /// The definition of a symbol where it says more than the built-in table.
@@ -129,20 +176,34 @@ impl Defs {
         &self.named
     }
 
-    /// Adds a shared symbol. An `Err` leaves the definitions unchanged.
-    pub fn share(&mut self, symbol: SharedSymbol) -> Result<(), AllocError>
-        ensures ok { OnOk result (self.new ≡ record self.old { shared = self.old.shared ++ shared_symbol symbol ∷ [] }) }
-        ensures err { OnErr result (self.new ≡ self.old) }
+    /// Puts a list of shared symbols in the place of the old one.
+    pub fn set_shared(&mut self, shared: Shared)
+        ensures { self.new ≡ record self.old { shared = shared } }
     {
-        self.shared.push(symbol)
+        self.shared = shared;
     }
 
-    /// Adds a symbol that was named to be distributed. An `Err` leaves the definitions unchanged.
-    pub fn name(&mut self, symbol: Sym) -> Result<(), AllocError>
-        ensures ok { OnOk result (self.new ≡ record self.old { named = self.old.named ++ symbol ∷ [] }) }
-        ensures err { OnErr result (self.new ≡ self.old) }
+    /// Puts a list of symbols that were named to be distributed in the place of the old one.
+    pub fn set_named(&mut self, named: Syms)
+        ensures { self.new ≡ record self.old { named = named } }
     {
-        self.named.push(symbol)
+        self.named = named;
+    }
+
+    /// The number that the next module takes.
+    pub fn module_number(&self) -> u64
+        ensures value { result ≡ self.now.module_number }
+        ensures within { result ≤ play.last_number }
+    {
+        self.module_number
+    }
+
+    /// Puts a module number in the place of the old one.
+    pub fn set_module(&mut self, number: u64)
+        requires { number ≤ play.last_number }
+        ensures { self.new ≡ record self.old { module_number = number } }
+    {
+        self.module_number = number;
     }
 
     /// Takes the module number, which then grows by one. The last number is never taken.

@@ -2,19 +2,17 @@
 ghost use Rattle.std.specs.Prelude.{◌≡◌, is_none};
 ghost use Rattle.semantics.specs.Definitions as d;
 ghost use Rattle.builtin_names.specs.Attributes.{attributes_in};
-ghost use Rattle.builtin_names.specs.Named.{HasBuiltins, names_in};
+ghost use Rattle.builtin_names.specs.Named.{names_in};
 ghost use Rattle.kernel_defs.specs.Definition.{definition_of};
 
 use crate::definition::Definition;
-use builtin_names::{first_attrs, role_of};
+use builtin_names::{Vocabulary, first_attrs, role_of};
 use expr_tree::{Attrs, Expr, Sym};
-use name_table::Names;
 use rule_store::Rules;
 use std::alloc::Global;
 
 /// The attributes that the built-in table gives a symbol.
-pub(crate) fn attrs_at_first(names: &Names, symbol: Sym) -> Attrs
-    requires { HasBuiltins names.now }
+pub(crate) fn attrs_at_first(names: &Vocabulary, symbol: Sym) -> Attrs
     ensures { attributes_in result ≡ (d.first_definition (names_in names.now) symbol).attributes }
 {
     match role_of(names, symbol) {
@@ -24,8 +22,7 @@ pub(crate) fn attrs_at_first(names: &Names, symbol: Sym) -> Attrs
 }
 
 /// What a symbol has at the start.
-pub(crate) fn definition_at_first(alloc: Global, names: &Names, symbol: Sym) -> Definition
-    requires { HasBuiltins names.now }
+pub(crate) fn definition_at_first(alloc: Global, names: &Vocabulary, symbol: Sym) -> Definition
     ensures { definition_of result ≡ d.first_definition (names_in names.now) symbol }
 {
     Definition {
@@ -58,8 +55,7 @@ fn has_no_own(own: &Option<Expr>) -> bool
 }
 
 /// Whether a definition says no more than the built-in table.
-pub(crate) fn is_first(names: &Names, symbol: Sym, definition: &Definition) -> bool
-    requires { HasBuiltins names.now }
+pub(crate) fn is_first(names: &Vocabulary, symbol: Sym, definition: &Definition) -> bool
     ensures { result ≡ d.is_first (names_in names.now) symbol (definition_of definition.now) }
 {
     has_no_own(&definition.own)

@@ -1,17 +1,15 @@
 ghost use Rattle.std.specs.Prelude.{◌≡◌};
 ghost use Rattle.expr_tree.specs.Tree.{normal, trees};
 ghost use Rattle.semantics.specs.Assign as assign;
-ghost use Rattle.builtin_names.specs.Named.{HasBuiltins, names_in};
+ghost use Rattle.builtin_names.specs.Named.{names_in};
 
-use builtin_names::{is_call, is_name};
+use builtin_names::{Vocabulary, is_call, is_name};
 use expr_tree::{Expr, Node};
-use name_table::Names;
 use semantics::Builtin;
 
 /// Whether a left side stands for its first item: `Condition[p, c]` and `HoldPattern[p]` do.
 #[tactic(auto, using(crate::proofs::Wrappers::wrapper_steps))]
-pub(crate) fn is_wrapper(names: &Names, head: &Expr, items: &[Expr]) -> bool
-    requires { HasBuiltins names.now }
+pub(crate) fn is_wrapper(names: &Vocabulary, head: &Expr, items: &[Expr]) -> bool
     ensures { result ≡ assign.is_wrapper (names_in names.now) head.now (trees items.now) }
 {
     if items.len() == 1 {
@@ -25,8 +23,7 @@ pub(crate) fn is_wrapper(names: &Names, head: &Expr, items: &[Expr]) -> bool
 
 /// The left side without `Condition` and `HoldPattern` round it.
 #[tactic(auto, using(crate::proofs::Wrappers::wrapper_steps, expr_tree::proofs::Callers::tree_steps))]
-pub fn inner<'a>(names: &Names, left: &'a Expr) -> &'a Expr
-    requires { HasBuiltins names.now }
+pub fn inner<'a>(names: &Vocabulary, left: &'a Expr) -> &'a Expr
     ensures { result.now ≡ assign.inner (names_in names.now) left.now }
 {
     let Node::Normal(head, items) = left.node() else {
@@ -43,8 +40,7 @@ pub fn inner<'a>(names: &Names, left: &'a Expr) -> &'a Expr
 }
 
 /// Whether a left side has `Condition` or `HoldPattern` round it.
-pub(crate) fn has_wrapping(names: &Names, left: &Expr) -> bool
-    requires { HasBuiltins names.now }
+pub(crate) fn has_wrapping(names: &Vocabulary, left: &Expr) -> bool
     ensures { result ≡ assign.has_wrapping (names_in names.now) left.now }
 {
     match left.node() {
@@ -60,8 +56,7 @@ pub(crate) fn is_normal(e: &Expr) -> bool
 }
 
 /// Whether an expression is `f[x][y]`, a `Part` or a `List`.
-pub(crate) fn is_nested(names: &Names, e: &Expr) -> bool
-    requires { HasBuiltins names.now }
+pub(crate) fn is_nested(names: &Vocabulary, e: &Expr) -> bool
     ensures { result ≡ assign.is_nested (names_in names.now) e.now }
 {
     if let Node::Normal(head, _) = e.node() {

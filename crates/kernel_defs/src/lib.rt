@@ -18,8 +18,10 @@ mod targets;
 
 pub use assign::Assigned;
 pub use definition::Definition;
-pub use defs::Defs;
+pub use defs::{Defs, symbols_of};
 pub use left_side::inner;
 pub use refusal::{Why, refusal_by_shape};
 pub use saved::Saved;
-pub use targets::{Form, Place, Target, Targets, asked_symbols, item_symbols, targets_of};
+pub use targets::{
+    Form, Place, Target, Targets, asked_symbols, is_among, item_symbols, targets_of,
+};

@@ -4,7 +4,7 @@ ghost use Rattle.semantics.specs.Definitions as d;
 ghost use Rattle.semantics.specs.Definitions.{Definitions};
 ghost use Rattle.semantics.specs.Program.{Local};
 ghost use Rattle.semantics.specs.Play as play;
-ghost use Rattle.builtin_names.specs.Named.{HasBuiltins, names_in};
+ghost use Rattle.builtin_names.specs.Named.{names_in};
 ghost use Rattle.kernel_defs.specs.Definition.{definition_of};
 ghost use Rattle.kernel_defs.specs.Locals.{linked, or_first, restored, saved_along, without};
 ghost use Rattle.kernel_defs.specs.Saved.{piece_of, saved_in};
@@ -13,8 +13,8 @@ use crate::chain::Entry;
 use crate::definition::Definition;
 use crate::defs::Defs;
 use crate::saved::{Piece, Saved};
+use builtin_names::Vocabulary;
 use expr_tree::{Attrs, Expr, Sym};
-use name_table::Names;
 use rule_store::Rules;
 use std::alloc::{AllocError, Global};
 
@@ -37,12 +37,11 @@ impl Defs {
     pub fn put_by(
         &mut self,
         alloc: Global,
-        names: &Names,
+        names: &Vocabulary,
         symbol: Sym,
         value: Option<Expr>,
         saved: &mut Saved,
     ) -> Result<(), AllocError>
-        requires { HasBuiltins names.now }
         ensures definitions { OnOk result (self.new ≡ d.put (names_in names.now) self.old symbol (play.local_definition (record { symbol = symbol; value = value }))) }
         ensures saved { OnOk result (saved_in saved.new ≡ saved_in saved.old ++ (symbol, d.look_up self.old.entries symbol) ∷ []) }
         ensures err { OnErr result (self.new ≡ self.old) }
@@ -84,8 +83,7 @@ impl Defs {
     }
 
     /// Gives a symbol what it had before it was put by.
-    fn put_back_one(&mut self, names: &Names, piece: Piece)
-        requires { HasBuiltins names.now }
+    fn put_back_one(&mut self, names: &Vocabulary, piece: Piece)
         ensures { self.new ≡ d.put (names_in names.now) self.old (piece_of piece).0 (or_first (names_in names.now) (piece_of piece).0 (piece_of piece).1) }
     {
         match piece {
@@ -99,8 +97,7 @@ impl Defs {
         }
     }
 
-    fn put_back_all(&mut self, names: &Names, saved: Saved)
-        requires { HasBuiltins names.now }
+    fn put_back_all(&mut self, names: &Vocabulary, saved: Saved)
         ensures { self.new ≡ restored (names_in names.now) (saved_in saved) self.old }
     {
         let Saved { mut pieces } = saved;
@@ -110,8 +107,7 @@ impl Defs {
     }
 
     /// Gives symbols what they had before they were put by, the last first. It takes no memory.
-    pub fn put_back(&mut self, names: &Names, saved: Saved)
-        requires { HasBuiltins names.now }
+    pub fn put_back(&mut self, names: &Vocabulary, saved: Saved)
         ensures { (old : Definitions) (ls : List Local) → saved_in saved ≡ saved_along (names_in names.now) ls old → self.new ≡ play.put_back (names_in names.now) old ls self.old }
     {
         self.entries_ascend();

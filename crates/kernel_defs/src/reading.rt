@@ -5,19 +5,18 @@ ghost use Rattle.semantics.specs.Changes as changes;
 ghost use Rattle.semantics.specs.Definitions as d;
 ghost use Rattle.semantics.specs.Names as n;
 ghost use Rattle.builtin_names.specs.Attributes.{attributes_in};
-ghost use Rattle.builtin_names.specs.Named.{HasBuiltins, names_in};
+ghost use Rattle.builtin_names.specs.Named.{names_in};
 ghost use Rattle.kernel_defs.specs.Definition.{definition_of};
 
 use crate::defs::Defs;
 use crate::first::attrs_at_first;
+use builtin_names::Vocabulary;
 use expr_tree::{Attrs, Expr, Sym};
-use name_table::Names;
-use rule_store::Rule;
+use rule_store::Rules;
 
 impl Defs {
     /// The attributes of a symbol.
-    pub fn attrs_of(&self, names: &Names, symbol: Sym) -> Attrs
-        requires { HasBuiltins names.now }
+    pub fn attrs_of(&self, names: &Vocabulary, symbol: Sym) -> Attrs
         ensures { attributes_in result ≡ (d.definition_of (names_in names.now) self.now symbol).attributes }
     {
         match self.shared().find(symbol) {
@@ -26,8 +25,8 @@ impl Defs {
         }
     }
 
-    fn stored_attrs(&self, names: &Names, symbol: Sym) -> Attrs
-        requires { HasBuiltins names.now }
+    /// The attributes that are stored for a symbol, whether or not it is shared.
+    pub fn stored_attrs(&self, names: &Vocabulary, symbol: Sym) -> Attrs
         ensures { attributes_in result ≡ (d.stored (names_in names.now) self.now symbol).attributes }
     {
         match self.find(symbol) {
@@ -38,8 +37,7 @@ impl Defs {
 
     /// Whether a symbol is Protected.
     #[tactic(auto, using(crate::proofs::Attributes::has_protected))]
-    pub fn is_protected(&self, names: &Names, symbol: Sym) -> bool
-        requires { HasBuiltins names.now }
+    pub fn is_protected(&self, names: &Vocabulary, symbol: Sym) -> bool
         ensures { result ≡ changes.is_protected (d.definition_of (names_in names.now) self.now symbol) }
     {
         self.attrs_of(names, symbol).protected
@@ -56,22 +54,22 @@ impl Defs {
     }
 
     /// The down rules of a symbol, in the order in which they are tried.
-    pub fn downs_of(&self, symbol: Sym) -> &[Rule]
+    pub fn downs_of(&self, symbol: Sym) -> &Rules
         ensures { (names : n.Names) → result.now ≡ (d.definition_of names self.now symbol).downs }
     {
         match self.find(symbol) {
-            Some(definition) => definition.downs.as_slice(),
-            None => &[],
+            Some(definition) => &definition.downs,
+            None => self.no_rules(),
         }
     }
 
     /// The up rules of a symbol, in the order in which they are tried.
-    pub fn ups_of(&self, symbol: Sym) -> &[Rule]
+    pub fn ups_of(&self, symbol: Sym) -> &Rules
         ensures { (names : n.Names) → result.now ≡ (d.definition_of names self.now symbol).ups }
     {
         match self.find(symbol) {
-            Some(definition) => definition.ups.as_slice(),
-            None => &[],
+            Some(definition) => &definition.ups,
+            None => self.no_rules(),
         }
     }
 

@@ -2,14 +2,13 @@ ghost use Rattle.std.specs.Prelude.{◌≡◌, ◌&&◌, [], not, map, false};
 ghost use Rattle.std.specs.Option.{option_map};
 ghost use Rattle.semantics.specs.Assign as assign;
 ghost use Rattle.semantics.specs.Definitions.{is_empty};
-ghost use Rattle.builtin_names.specs.Named.{HasBuiltins, names_in};
+ghost use Rattle.builtin_names.specs.Named.{names_in};
 ghost use Rattle.kernel_defs.specs.Targets.{form_of, target_of, why_of};
 
 use crate::left_side::{has_wrapping, inner, is_nested, is_normal};
 use crate::targets::{Form, Targets};
-use builtin_names::items_of;
+use builtin_names::{Vocabulary, items_of};
 use expr_tree::{Expr, Sym, symbol_of};
-use name_table::Names;
 
 /// Why an assignment is refused.
 #[derive(Clone, Copy, Debug, PartialEq, Eq)]
@@ -25,8 +24,7 @@ pub enum Why {
 }
 
 /// Whether something other than a normal expression stands inside `Condition` or `HoldPattern`.
-fn wraps_an_atom(names: &Names, left: &Expr) -> bool
-    requires { HasBuiltins names.now }
+fn wraps_an_atom(names: &Vocabulary, left: &Expr) -> bool
     ensures { result ≡ (assign.has_wrapping (names_in names.now) left.now && not (assign.is_normal (assign.inner (names_in names.now) left.now))) }
 {
     has_wrapping(names, left) && !is_normal(inner(names, left))
@@ -65,8 +63,7 @@ fn has_no_symbol_at(left: &Expr) -> bool
 }
 
 #[tactic(auto, using(crate::proofs::Shapes::shape_steps))]
-fn has_no_symbol(names: &Names, form: Form, left: &Expr, targets: &Targets) -> bool
-    requires names { HasBuiltins names.now }
+fn has_no_symbol(names: &Vocabulary, form: Form, left: &Expr, targets: &Targets) -> bool
     requires targets { map target_of targets.now ≡ assign.places (names_in names.now) (form_of form) left.now }
     ensures { result ≡ assign.has_no_symbol (names_in names.now) (form_of form) left.now }
 {
@@ -81,8 +78,12 @@ fn has_no_symbol(names: &Names, form: Form, left: &Expr, targets: &Targets) -> b
 
 /// The first cause for which an assignment with these targets is refused, where none of the symbols asked is Protected.
 #[tactic(auto, using(crate::proofs::Shapes::shape_steps))]
-pub fn refusal_by_shape(names: &Names, form: Form, left: &Expr, targets: &Targets) -> Option<Why>
-    requires names { HasBuiltins names.now }
+pub fn refusal_by_shape(
+    names: &Vocabulary,
+    form: Form,
+    left: &Expr,
+    targets: &Targets,
+) -> Option<Why>
     requires targets { map target_of targets.now ≡ assign.places (names_in names.now) (form_of form) left.now }
     ensures { option_map why_of result ≡ assign.refusal (names_in names.now) (λ s. false) (form_of form) left.now }
 {

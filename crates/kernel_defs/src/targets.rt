@@ -3,14 +3,13 @@ ghost use Rattle.semantics.specs.Names as n;
 ghost use Rattle.expr_tree.specs.Shapes as shapes;
 ghost use Rattle.expr_tree.specs.Substitution as substitution;
 ghost use Rattle.semantics.specs.Assign as assign;
-ghost use Rattle.builtin_names.specs.Named.{HasBuiltins, names_in};
+ghost use Rattle.builtin_names.specs.Named.{names_in};
 ghost use Rattle.kernel_defs.specs.Targets.{form_of, place_of, target_of};
 
 use crate::left_side::inner;
-use builtin_names::items_of;
+use builtin_names::{Vocabulary, items_of};
 use expr_tree::{Expr, Node, Sym, Syms, symbol_of};
 use item_list::Items;
-use name_table::Names;
 use std::alloc::{AllocError, Global};
 
 /// The form of an assignment. The tagged ones have their tag.
@@ -42,7 +41,8 @@ pub struct Target {
 /// Targets in their order.
 pub type Targets = Items<Target>;
 
-fn is_among(symbol: Sym, symbols: &Syms) -> bool
+/// Whether a symbol is among some.
+pub fn is_among(symbol: Sym, symbols: &Syms) -> bool
     ensures { result ≡ substitution.among symbol symbols.now }
 {
     for other in symbols.as_slice() {
@@ -155,11 +155,10 @@ fn targets_in(alloc: Global, form: Form, e: &Expr) -> Result<Targets, AllocError
 /// The symbols that an assignment is attached to, with the places.
 pub fn targets_of(
     alloc: Global,
-    names: &Names,
+    names: &Vocabulary,
     form: Form,
     left: &Expr,
 ) -> Result<Targets, AllocError>
-    requires { HasBuiltins names.now }
     ensures { IfOk result (λ ts. map target_of ts ≡ assign.places (names_in names.now) (form_of form) left.now) }
 {
     targets_in(alloc, form, inner(names, left))

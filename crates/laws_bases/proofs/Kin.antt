@@ -1,4 +1,5 @@
--- What is kept is related to itself by a relation that keeps bases below a number, and what is related is kept.
+-- What is kept is related to itself by a relation that keeps bases below a number, and what is related is kept: an instance of the relations
+-- of `laws_relations` that follows programs through a use of the mode.
 use Rattle.std.proofs.Common.{◌≡◌, refl, ℕ, ◌<◌, List, [], ◌∷◌, Option, Some, None}
 use Rattle.expr_tree.specs.declared.sym.Sym.{Sym}
 use Rattle.expr_tree.specs.Tree.{Tree, integer, string, symbol, normal, Trees, nil, cons}
@@ -86,7 +87,7 @@ module _ (count : ℕ) where
   shared-kept all_nil = tt
   shared-kept (all_cons e es) = (e.symbol.1, shared-kept es)
 
-  symbols-kept : {ss ts : List Sym} → All S ss ts → AreKeptSymbols count ss
+  pub symbols-kept : {ss ts : List Sym} → All S ss ts → AreKeptSymbols count ss
   symbols-kept all_nil = tt
   symbols-kept (all_cons s ss) = (s.1, symbols-kept ss)
 

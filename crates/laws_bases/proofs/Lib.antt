@@ -1,2 +1,3 @@
 mod Kin
+mod Along
 pub mod Stay

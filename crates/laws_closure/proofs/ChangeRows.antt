@@ -16,6 +16,7 @@ use Rattle.semantics.specs.Definitions.{Definition, Attributes, has, Share}
 use Rattle.semantics.specs.Program.{Prog, Done, Look, Put, Seen}
 use Rattle.semantics.specs.Assign.{Form, ToHead, ToItems, ToTag, Place, Own, Down, Up, Target, is_wrapper, inner, inner_first, add_symbol, item_symbols, all_at, at_head, is_that, tag_place, places_in, places, asked_symbols, Why, refusal, attached}
 use Rattle.semantics.specs.Changes.{see_all, is_protected, protected_in, any_shared, unless_item, noting, attach_all, attaches_shared, assign, set, set_delayed, tag_set, tag_set_delayed, holders, holds, holding, any_protected, without_left, take_away, unset_from, unset, renew, change_own, change, old_value, new_value, plus_int, step_by, change_with, subtract_from, unless_shared_symbol, write, cleared, nothing_left, clear, clear_all, with_attributes, without_attributes, named_attributes, change_attributes, protect, attributes_row}
+use Rattle.laws_closure.specs.Throws.{may_throw}
 use Rattle.laws_closure.proofs.Inside.{both, Each, Opt, appended, items, symbol_in, in_order}
 use Rattle.laws_closure.proofs.Programs.{before, Realm, Has, HasAll, RuleIn, DefinedIn, SeenBoth, Both, done, ask, look, put, edit, check, moded, grows, same_world, later_in, later_defined, Later, from_later, now, branch, option_both, made}
 use Rattle.laws_closure.proofs.ControlRows.{failed_both, null_both}
@@ -293,19 +294,19 @@ module _ (R : Realm) where
   pub step_by_both : Table → (n : ℤ) (gives : Tree → Tree → Tree) → ((u : World) (old new : Tree) → Has R u old → Has R u new → Has R u (gives old new))
       → (w : World) (p q : Prog) (es : List Tree) → Later R w p q → HasAll R w es → Both R w (step_by names n gives p es) (step_by names n gives q es)
   step_by_both t n gives gives_in w p q (symbol s ∷ []) next all =
-      change_both t w s (plus_int names n) gives all.0 (λ u g v v_in. made R u t Builtin.Plus (v ∷ integer n ∷ []) (v_in, (tt, tt))) gives_in
+      change_both t w s (plus_int names n) gives all.0 (λ u g v v_in. made R u t Builtin.Plus refl (v ∷ integer n ∷ []) (v_in, (tt, tt))) gives_in
   step_by_both t n gives gives_in w p q _ next all = now R w next
 
-  pub change_with_both : Table → (row : Builtin) (w : World) (p q : Prog) (es : List Tree) → Later R w p q → HasAll R w es → Both R w (change_with names row p es) (change_with names row q es)
-  change_with_both t row w p q (symbol s ∷ x ∷ []) next all =
-      change_both t w s (λ old. make names row (old ∷ x ∷ [])) new_value all.0 (λ u g v v_in. made R u t row (v ∷ x ∷ []) (v_in, (later_in R w u g x all.1.0, tt))) gives_new
-  change_with_both t row w p q _ next all = now R w next
+  pub change_with_both : Table → (row : Builtin) → may_throw row ≡ false → (w : World) (p q : Prog) (es : List Tree) → Later R w p q → HasAll R w es → Both R w (change_with names row p es) (change_with names row q es)
+  change_with_both t row calm w p q (symbol s ∷ x ∷ []) next all =
+      change_both t w s (λ old. make names row (old ∷ x ∷ [])) new_value all.0 (λ u g v v_in. made R u t row calm (v ∷ x ∷ []) (v_in, (later_in R w u g x all.1.0, tt))) gives_new
+  change_with_both t row calm w p q _ next all = now R w next
 
   pub subtract_from_both : Table → (w : World) (p q : Prog) (es : List Tree) → Later R w p q → HasAll R w es → Both R w (subtract_from names p es) (subtract_from names q es)
   subtract_from_both t w p q (symbol s ∷ x ∷ []) next all =
       change_both t w s (λ old. make names Builtin.Plus (old ∷ make names Builtin.Times (integer (negsuc 0) ∷ x ∷ []) ∷ [])) new_value all.0
-      (λ u g v v_in. made R u t Builtin.Plus (v ∷ make names Builtin.Times (integer (negsuc 0) ∷ x ∷ []) ∷ [])
-      (v_in, (made R u t Builtin.Times (integer (negsuc 0) ∷ x ∷ []) (tt, (later_in R w u g x all.1.0, tt)), tt))) gives_new
+      (λ u g v v_in. made R u t Builtin.Plus refl (v ∷ make names Builtin.Times (integer (negsuc 0) ∷ x ∷ []) ∷ [])
+      (v_in, (made R u t Builtin.Times refl (integer (negsuc 0) ∷ x ∷ []) (tt, (later_in R w u g x all.1.0, tt)), tt))) gives_new
   subtract_from_both t w p q _ next all = now R w next
 
   -- a change of a definition keeps to the set
@@ -357,12 +358,12 @@ module _ (R : Realm) where
       look all.0 (λ x y seen. unless_shared_or w (λ d. Put s (f d) (Done (name names Builtin.Null))) x y seen (λ one. put t (before all.0) (keeps w x.definition one) (λ u g s_in. null_both R u t)))
   protect_both t f keeps w p q _ next all = now R w next
 
-  names_in : Table → (w : World) (a : Attributes) → HasAll R w (map (name names) a)
-  names_in t w [] = tt
-  names_in t w (b ∷ bs) = (knows w t b, names_in t w bs)
+  names_in : R.Throwing → Table → (w : World) (a : Attributes) → HasAll R w (map (name names) a)
+  names_in free t w [] = tt
+  names_in free t w (b ∷ bs) = (R.knows_any free w t b, names_in free t w bs)
 
-  pub attributes_row_both : Table → (w : World) (p q : Prog) (es : List Tree) → Later R w p q → HasAll R w es → Both R w (attributes_row names p es) (attributes_row names q es)
-  attributes_row_both t w p q (symbol s ∷ []) next all =
+  pub attributes_row_both : R.Throwing → Table → (w : World) (p q : Prog) (es : List Tree) → Later R w p q → HasAll R w es → Both R w (attributes_row names p es) (attributes_row names q es)
+  attributes_row_both free t w p q (symbol s ∷ []) next all =
       look all.0 (λ x y seen. unless_shared_or w (λ d. Done (make names Builtin.List (ordered (map (name names) d.attributes)))) x y seen
-      (λ one. done (made R w t Builtin.List _ (in_order (Member w) _ (names_in t w x.definition.attributes)))))
-  attributes_row_both t w p q _ next all = now R w next
+      (λ one. done (made R w t Builtin.List refl _ (in_order (Member w) _ (names_in free t w x.definition.attributes)))))
+  attributes_row_both free t w p q _ next all = now R w next

@@ -1,5 +1,5 @@
 -- The control forms keep to a set of symbols that holds the table.
-use Rattle.std.proofs.Common.{◌≡◌, subst, ℕ, zero, suc, List, [], ◌∷◌, reverse, Option, Some, None}
+use Rattle.std.proofs.Common.{false, refl, ◌≡◌, subst, ℕ, zero, suc, List, [], ◌∷◌, reverse, Option, Some, None}
 use Rattle.std.specs.Prelude.{ℤ, pos, ◌+ℤ◌}
 use Rattle.std.specs.Ordering.{int_eq}
 use Rattle.expr_tree.specs.declared.sym.Sym.{Sym}
@@ -10,6 +10,7 @@ use Rattle.semantics.specs.Names.{is_name, is_call, items_of}
 use Rattle.semantics.specs.Definitions.{Share}
 use Rattle.semantics.specs.Program.{Prog, Done}
 use Rattle.semantics.specs.Control.{in_turn, by_truth, conditional, first_true, is_paired, which, connected, while_true, while, throw, catch, most_turns, Values, From, Each as Over, ask_number, up_to, steps_to, bound_or_list, unless_zero, unless_shared, iterator_parts, iterator, locals, over_numbers, over_list, over, inner_form, iterated, applied, nested, nest, until_fixed, fixed_point, folded, fold, selected, select, nested_list, nest_list, folded_list, fold_list, failed, null}
+use Rattle.laws_closure.specs.Throws.{may_throw}
 use Rattle.laws_closure.proofs.Inside.{Each, Opt, reversed, listed, called, items}
 use Rattle.laws_closure.proofs.Programs.{Realm, Has, HasAll, LocalIn, Both, done, stop, throws, ask, catches, within, look, turn, check, moded, grows, same_world, later, later_in, later_all, Later, LaterGives, LaterAll, from_later, now, gives_later, all_later, branch, itself, made, gives_name}
 
@@ -17,10 +18,10 @@ module _ (R : Realm) where
   open R use {names, World, Member, Table, knows}
 
   pub failed_both : (w : World) → Table → Both R w (failed names) (failed names)
-  failed_both w t = gives_name R w t Builtin.Failed
+  failed_both w t = gives_name R w t Builtin.Failed refl
 
   pub null_both : (w : World) → Table → Both R w (null names) (null names)
-  null_both w t = gives_name R w t Builtin.Null
+  null_both w t = gives_name R w t Builtin.Null refl
 
   -- what is evaluated, in turn
   pub in_turn_both : (w : World) (p q : Prog) (es : List Tree) → Later R w p q → HasAll R w es → Both R w (in_turn p es) (in_turn q es)
@@ -39,23 +40,23 @@ module _ (R : Realm) where
 
   first_true_both : Table → (w : World) (es : List Tree) → HasAll R w es → Both R w (first_true names es) (first_true names es)
   first_true_both t w [] all = null_both w t
-  first_true_both t w (c ∷ []) all = done (made R w t Builtin.Which (c ∷ []) all)
+  first_true_both t w (c ∷ []) all = done (made R w t Builtin.Which refl (c ∷ []) all)
   first_true_both t w (c ∷ e ∷ es) all =
       ask all.0 (λ u g v one. by_truth_both u v (done (later_in R w u g e all.1.0)) (first_true_both t u es (later_all R w u g es all.1.1))
-      (done (made R u t Builtin.Which (v ∷ e ∷ es) (one, later_all R w u g (e ∷ es) all.1))))
+      (done (made R u t Builtin.Which refl (v ∷ e ∷ es) (one, later_all R w u g (e ∷ es) all.1))))
 
   pub which_both : Table → (w : World) (p q : Prog) (es : List Tree) → Later R w p q → HasAll R w es → Both R w (which names p es) (which names q es)
   which_both t w p q es next all = branch R w (is_paired es) (first_true_both t w es all) (now R w next)
 
-  pub connected_both : Table → (row going ending : Builtin) (w : World) (es kept : List Tree) → HasAll R w es → HasAll R w kept
+  pub connected_both : Table → (row going ending : Builtin) → may_throw row ≡ false → may_throw going ≡ false → (w : World) (es kept : List Tree) → HasAll R w es → HasAll R w kept
       → Both R w (connected names row going ending es kept) (connected names row going ending es kept)
-  connected_both t row going ending w [] [] all so_far = gives_name R w t going
-  connected_both t row going ending w [] (e ∷ []) all so_far = done so_far.0
-  connected_both t row going ending w [] (e ∷ f ∷ kept) all so_far = done (made R w t row (reverse (e ∷ f ∷ kept)) (reversed (Has R w) (e ∷ f ∷ kept) so_far))
-  connected_both t row going ending w (e ∷ es) kept all so_far =
+  connected_both t row going ending calm plain w [] [] all so_far = gives_name R w t going plain
+  connected_both t row going ending calm plain w [] (e ∷ []) all so_far = done so_far.0
+  connected_both t row going ending calm plain w [] (e ∷ f ∷ kept) all so_far = done (made R w t row calm (reverse (e ∷ f ∷ kept)) (reversed (Has R w) (e ∷ f ∷ kept) so_far))
+  connected_both t row going ending calm plain w (e ∷ es) kept all so_far =
       ask all.0 (λ u g v one. branch R u (is_name names ending v) (done one) (branch R u (is_name names going v)
-      (connected_both t row going ending u es kept (later_all R w u g es all.1) (later_all R w u g kept so_far))
-      (connected_both t row going ending u es (v ∷ kept) (later_all R w u g es all.1) (one, later_all R w u g kept so_far))))
+      (connected_both t row going ending calm plain u es kept (later_all R w u g es all.1) (later_all R w u g kept so_far))
+      (connected_both t row going ending calm plain u es (v ∷ kept) (later_all R w u g es all.1) (one, later_all R w u g kept so_far))))
 
   while_true_both : Table → (n : ℕ) (w : World) (c e : Tree) → Has R w c → Has R w e → Both R w (while_true names n c e) (while_true names n c e)
   while_true_both t zero w c e c_in e_in = stop
@@ -68,13 +69,13 @@ module _ (R : Realm) where
   while_both t w p q (c ∷ e ∷ []) next all = while_true_both t most_turns w c e all.0 all.1.0
   while_both t w p q _ next all = now R w next
 
-  pub throw_both : (w : World) (p q : Prog) (es : List Tree) → Later R w p q → HasAll R w es → Both R w (throw p es) (throw q es)
-  throw_both w p q (e ∷ []) next all = throws all.0
-  throw_both w p q _ next all = now R w next
+  pub throw_both : R.Throwing → (w : World) (p q : Prog) (es : List Tree) → Later R w p q → HasAll R w es → Both R w (throw p es) (throw q es)
+  throw_both free w p q (e ∷ []) next all = throws free all.0
+  throw_both free w p q _ next all = now R w next
 
-  pub catch_both : (w : World) (p q : Prog) (es : List Tree) → Later R w p q → HasAll R w es → Both R w (catch p es) (catch q es)
-  catch_both w p q (e ∷ []) next all = catches all.0 (λ u g v one. done one)
-  catch_both w p q _ next all = now R w next
+  pub catch_both : R.Throwing → (w : World) (p q : Prog) (es : List Tree) → Later R w p q → HasAll R w es → Both R w (catch p es) (catch q es)
+  catch_both free w p q (e ∷ []) next all = catches free all.0 (λ u g v one. done one)
+  catch_both free w p q _ next all = now R w next
 
   -- ---- iterators
 
@@ -172,18 +173,18 @@ module _ (R : Realm) where
   over_both w i (From a d n) e k l i_in vs_in e_in finish = over_numbers_both n w i e d a [] k l i_in e_in tt finish
   over_both w i (Over es) e k l i_in vs_in e_in finish = over_list_both es w i e [] k l vs_in i_in e_in tt finish
 
-  inner_form_in : Table → (w : World) (row : Builtin) (e : Tree) (its : List Tree) → Has R w e → HasAll R w its → Has R w (inner_form names row e its)
-  inner_form_in t w row e [] one all = one
-  inner_form_in t w row e (it ∷ its) one all = made R w t row (e ∷ it ∷ its) (one, all)
+  inner_form_in : Table → (w : World) (row : Builtin) → may_throw row ≡ false → (e : Tree) (its : List Tree) → Has R w e → HasAll R w its → Has R w (inner_form names row e its)
+  inner_form_in t w row calm e [] one all = one
+  inner_form_in t w row calm e (it ∷ its) one all = made R w t row calm (e ∷ it ∷ its) (one, all)
 
-  pub iterated_both : Table → (row : Builtin) (k l : List Tree → Prog) (w : World) (p q : Prog) (es : List Tree) → LaterAll R w k l → Later R w p q → HasAll R w es
+  pub iterated_both : Table → (row : Builtin) → may_throw row ≡ false → (k l : List Tree → Prog) (w : World) (p q : Prog) (es : List Tree) → LaterAll R w k l → Later R w p q → HasAll R w es
       → Both R w (iterated names row k p es) (iterated names row l q es)
-  iterated_both t row k l w p q (e ∷ it ∷ its) finish next all =
+  iterated_both t row calm k l w p q (e ∷ it ∷ its) finish next all =
       iterator_both w it _ _ p q all.1.0
       (λ u g i vs parts i_in vs_in. over_both u i vs (inner_form names row e its) k l i_in vs_in
-      (inner_form_in t u row e its (later_in R w u g e all.0) (later_all R w u g its all.1.1)) (all_later R w u g finish)) next
-  iterated_both t row k l w p q [] finish next all = now R w next
-  iterated_both t row k l w p q (e ∷ []) finish next all = now R w next
+      (inner_form_in t u row calm e its (later_in R w u g e all.0) (later_all R w u g its all.1.1)) (all_later R w u g finish)) next
+  iterated_both t row calm k l w p q [] finish next all = now R w next
+  iterated_both t row calm k l w p q (e ∷ []) finish next all = now R w next
 
   -- ---- turn forms
 
@@ -240,7 +241,7 @@ module _ (R : Realm) where
 
   pub nest_list_both : Table → (w : World) (p q : Prog) (es : List Tree) → Later R w p q → HasAll R w es → Both R w (nest_list names p es) (nest_list names q es)
   nest_list_both t w p q (f ∷ x ∷ integer (pos n) ∷ []) next all =
-      nested_list_both n w f x [] _ _ all.0 all.1.0 tt (λ u g vs vs_in. done (made R u t Builtin.List vs vs_in))
+      nested_list_both n w f x [] _ _ all.0 all.1.0 tt (λ u g vs vs_in. done (made R u t Builtin.List refl vs vs_in))
   nest_list_both t w p q _ next all = now R w next
 
   folded_list_both : (es : List Tree) (w : World) (f x : Tree) (so : List Tree) (k l : List Tree → Prog) → HasAll R w es → Has R w f → Has R w x → HasAll R w so → LaterAll R w k l

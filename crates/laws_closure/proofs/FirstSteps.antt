@@ -1,5 +1,5 @@
 -- Head, elements and splicing, and the left side of an assignment, keep to a set of symbols.
-use Rattle.std.proofs.Common.{subst, List, [], ◌∷◌, ◌++◌, Some, None}
+use Rattle.std.proofs.Common.{refl, subst, List, [], ◌∷◌, ◌++◌, Some, None}
 use Rattle.std.specs.Prelude.{◌||◌}
 use Rattle.expr_tree.specs.Tree.{Tree, integer, string, symbol, normal, elements, call}
 use Rattle.semantics.specs.declared.builtin.Builtin.{Builtin}
@@ -38,7 +38,7 @@ module _ (R : Realm) where
       look one (λ x y seen. subst (λ a. Both R w (k x.definition.attributes) (l a)) seen.attributes (next x.definition.attributes))
   attributes_of_both w (normal h es) k l one next = next []
 
-  spliced_in : (w : World) (a : Attributes) (es : List Tree) → HasAll R w es → HasAll R w (spliced names a es)
+  pub spliced_in : (w : World) (a : Attributes) (es : List Tree) → HasAll R w es → HasAll R w (spliced names a es)
   spliced_in w a es all = both (HasAll R w) (has Builtin.SequenceHold a || has Builtin.HoldAllComplete a) all (Inside.spliced (Member w) names es all)
 
   pub first_steps_both : (w : World) (h : Tree) (es : List Tree) (k l : Tree → Attributes → List Tree → Prog) → Has R w h → HasAll R w es
@@ -75,7 +75,7 @@ module _ (R : Realm) where
       let flat = flattened_in w h a es all in
       option_both R w (ThreadedIn w) (threaded names h a (flattened h a es)) (threaded_in w h a (flattened h a es) one flat)
       (next (call h (sorted a (flattened h a es))) (called (Member w) h (sorted a (flattened h a es)) one (sorted_in w a (flattened h a es) flat)))
-      (λ each t. check_all_both w each _ _ t.1 (next (make names Builtin.List each) (made R w t.0 Builtin.List each t.1)))
+      (λ each t. check_all_both w each _ _ t.1 (next (make names Builtin.List each) (made R w t.0 Builtin.List refl each t.1)))
 
   pub left_side_both : (w : World) (e : Tree) (k l : Tree → Prog) → Has R w e → LaterGives R w k l → Both R w (left_side names e k) (left_side names e l)
   left_side_both w (normal h es) k l one next =

@@ -1,6 +1,6 @@
 -- The law of the frame: a closed set with what Module makes is a set that evaluations keep to.
-use Rattle.std.proofs.Common.{ℕ, ◌≤◌, arith, le_refl, ◌≡◌, refl, sym, ap, subst, ◌∙◌, Bool, true, false, List, [], ◌∷◌, ◌++◌, Option, Some, None, true≢false, eqb-true}
-use Rattle.std.specs.Prelude.{◌&&◌, ◌||◌, ◌==◌}
+use Rattle.std.proofs.Common.{ℕ, suc, ◌<◌, ◌≤◌, inl, inr, arith, le_refl, ◌≡◌, refl, sym, ap, subst, ◌∙◌, Bool, true, false, List, [], ◌∷◌, ◌++◌, Option, Some, None, true≢false, eqb-true}
+use Rattle.std.specs.Prelude.{◌&&◌, ◌||◌, ◌==◌, ◌⊎◌}
 use Rattle.expr_tree.proofs.Same.{symbol_eq-Decides}
 use Rattle.expr_tree.specs.declared.sym.Sym.{Sym}
 use Rattle.expr_tree.specs.Tree.{Tree, integer, string, symbol, normal, Trees, nil, cons}
@@ -10,16 +10,17 @@ use Rattle.semantics.specs.declared.builtin.Builtin.{Builtin}
 use Rattle.semantics.specs.Names.{Names, IsNames, known, is_known, role_of}
 use Rattle.semantics.specs.Rule.{Rule}
 use Rattle.semantics.specs.Definitions.{Definition, Definitions, Shared, shared_as, stored}
-use Rattle.semantics.specs.Play.{Setting, Play, whole, begun}
+use Rattle.semantics.specs.Play.{Setting, State, End, Play, Over, whole, begun}
 use Rattle.semantics.specs.Eval.{Event, Evaluation, if_matched, over, eval, same_call}
 use Rattle.journal.specs.Places.{is_some}
 use Rattle.journal.specs.Closure.{symbols_of, symbols_of_items, symbols_of_own, symbols_of_rules, symbols_of_definition, is_row, is_shared}
 use Rattle.laws_language.proofs.Modes.{Used, ended, called}
-use Rattle.laws_closure.specs.Frame.{IsClosed, AgreeOn, StandsIn, Untouched, WentAlike, Members, Frame}
+use Rattle.laws_relations.proofs.Beyond.{Beyond}
+use Rattle.laws_closure.specs.Frame.{IsClosed, AgreeOn, StandsIn, WentAlike, Members, Frame}
 use Rattle.laws_closure.proofs.Inside.{Each, Opt, In, Ins}
 use Rattle.laws_closure.proofs.Programs.{Origin, before, new, Realm, DefinedIn, grows}
 use Rattle.laws_closure.proofs.Agreeing.{Agree, Outside}
-use Rattle.laws_closure.proofs.Following.{Follows, quiet, used, eval_at_follows}
+use Rattle.laws_closure.proofs.Following.{Follows, quiet, used, taken, eval_at_follows}
 
 -- ---- members of lists of symbols
 
@@ -53,10 +54,10 @@ among_right s (x ∷ ss) ts e = or_right (same_symbol s x) (among s (ss ++ ts)) 
 abbrev pub AllAmong : (Sym → Type 0) → List Sym → Type 0
 AllAmong C ss = (s : Sym) → among s ss ≡ true → C s
 
-first_part : (C : Sym → Type 0) (ss ts : List Sym) → AllAmong C (ss ++ ts) → AllAmong C ss
+pub first_part : (C : Sym → Type 0) (ss ts : List Sym) → AllAmong C (ss ++ ts) → AllAmong C ss
 first_part C ss ts all s e = all s (among_left s ss ts e)
 
-second_part : (C : Sym → Type 0) (ss ts : List Sym) → AllAmong C (ss ++ ts) → AllAmong C ts
+pub second_part : (C : Sym → Type 0) (ss ts : List Sym) → AllAmong C (ss ++ ts) → AllAmong C ts
 second_part C ss ts all s e = all s (among_right s ss ts e)
 
 mutual
@@ -72,11 +73,11 @@ mutual
   all_stand_in C (cons e es) all =
       (stands_in C e (first_part C (symbols_of e) (symbols_of_items es) all), all_stand_in C es (second_part C (symbols_of e) (symbols_of_items es) all))
 
-own_stands : (C : Sym → Type 0) (o : Option Tree) → AllAmong C (symbols_of_own o) → Opt (In C) o
+pub own_stands : (C : Sym → Type 0) (o : Option Tree) → AllAmong C (symbols_of_own o) → Opt (In C) o
 own_stands C None all = tt
 own_stands C (Some e) all = stands_in C e all
 
-rules_stand : (C : Sym → Type 0) (rs : List Rule) → AllAmong C (symbols_of_rules rs) → Each (λ r. In C r.left × In C r.right) rs
+pub rules_stand : (C : Sym → Type 0) (rs : List Rule) → AllAmong C (symbols_of_rules rs) → Each (λ r. In C r.left × In C r.right) rs
 rules_stand C [] all = tt
 rules_stand C (r ∷ rs) all =
     let rest = second_part C (symbols_of r.left) (symbols_of r.right ++ symbols_of_rules rs) all in (
@@ -144,7 +145,10 @@ module _ (names : Names) (is : IsNames names) (C : Sym → Type 0) (closed : (s 
         Member = Inhabits;
         Table = WholeTable;
         Numbered = λ w. Unit {0};
-        knows = knows_table;
+        Throwing = Unit {0};
+        knows = λ w t r _. knows_table w t r;
+        knows_any = λ _ w t r. knows_table w t r;
+        throwing = λ w r s s_in is _. tt;
         tabled = tabled_by;
         has_role = role_tabled;
         extended = λ w s t o. also w s t (comes_from w s o);
@@ -197,53 +201,79 @@ used_over (called {c = c} {s = s} {k = k} h next) (a ∷ rest) = go (same_call a
     go true later = later
     go false later = h
 
-untouched_by : (names : Names) (is : IsNames names) (C : Sym → Type 0) (closed : (s t : Sym) → C s → is_row names s ≡ true → is_row names t ≡ true → C t) (first : ℕ) (shared : List Shared) (d after : Definitions)
-    → first ≡ d.module_number → (w : Extension names is C closed first) → Outside (realm names is C closed first) shared d w after → Untouched names C d after
-untouched_by names is C closed first shared d after same w out s apart less = go (out s)
-  where
-    not_made : Origin (C s) (first ≤ s.number) → ⊥
-    not_made (before s_in) = apart s_in
-    not_made (new le) = omega (arith, le, less, same)
+module _ (names : Names) (is : IsNames names) (C : Sym → Type 0) (closed : (s t : Sym) → C s → is_row names s ≡ true → is_row names t ≡ true → C t) where
+  -- what is not in the set, and has a number before the first, is as it was
+  untouched_at : (first : ℕ) (shared : List Shared) (d after : Definitions) (w : Extension names is C closed first) → Outside (realm names is C closed first) shared d w after
+      → (s : Sym) → (C s → ⊥) → s.number < first → stored names after s ≡ stored names d s
+  untouched_at first shared d after w out s apart less = go (out s)
+    where
+      not_made : Origin (C s) (first ≤ s.number) → ⊥
+      not_made (before s_in) = apart s_in
+      not_made (new le) = omega (arith, le, less)
 
-    go : Origin (Inhabits names is C closed first w s) (stored names after s ≡ stored names d s) → stored names after s ≡ stored names d s
-    go (before s_in) = absurd (not_made (inhabits_from names is C closed first w s s_in))
-    go (new e) = e
+      go : Origin (Inhabits names is C closed first w s) (stored names after s ≡ stored names d s) → stored names after s ≡ stored names d s
+      go (before s_in) = absurd (not_made (inhabits_from names is C closed first w s s_in))
+      go (new e) = e
 
-alike_over : (names : Names) (is : IsNames names) (C : Sym → Type 0) (closed : (s t : Sym) → C s → is_row names s ≡ true → is_row names t ≡ true → C t) (d c : Definitions) → d.module_number ≡ c.module_number
-    → (set : Setting) (p q : Play) (events : List Event) → (over p events).used ≡ false
-    → Follows (realm names is C closed d.module_number) (λ x. tt) d.shared set.shown set.mode set.kernel set.limits d c start p q
-    → WentAlike names C d c events (over p events) (over q events)
-alike_over names is C closed d c same set p q events free (quiet {o = o} {s = s} {t = t} u g end states) =
-    record {
-      end = o;
-      first = refl;
-      second = refl;
-      steps = states.steps;
-      used = states.used;
-      no_call = (refl, refl);
-      after = agree_after names is C closed d.module_number d.shared u g s.definitions t.definitions states.definitions;
-      untouched = (
-        untouched_by names is C closed d.module_number d.shared d s.definitions refl u states.outside.0,
-        untouched_by names is C closed d.module_number d.shared c t.definitions same u states.outside.1,
-      );
-    }
-alike_over names is C closed d c same set p q events free (used h) = absurd (true≢false (sym (used_over h events) ∙ free))
+  module _ (set : Setting) (d c : Definitions) where
+    -- numbers from `first` on may be taken, or none where `narrow` holds
+    abbrev Following : ℕ → Type 0 → Play → Play → Type 0
+    Following first narrow = Follows (realm names is C closed first) (λ x. tt) d.shared set.shown set.mode set.kernel set.limits narrow d.module_number d c start
+
+    -- with no number taken, also a symbol with a later number is as it was
+    unchanged_at : (x : Sym) (o r : End) (s t : State) → Following (suc x.number) (Unit {0}) (Over o s) (Over r t) → s.used ≡ false → s.definitions.module_number ≡ d.module_number → (C x → ⊥)
+        → (stored names s.definitions x ≡ stored names d x) × (stored names t.definitions x ≡ stored names c x)
+    unchanged_at x o r s t (quiet u g end states) free same apart = (
+      untouched_at (suc x.number) d.shared d s.definitions u states.outside.0 x apart (omega arith),
+      untouched_at (suc x.number) d.shared c t.definitions u states.outside.1 x apart (omega arith),
+    )
+    unchanged_at x o r s t (used (ended h)) free same apart = absurd (true≢false (sym h ∙ free))
+    unchanged_at x o r s t (taken narrow (Beyond.over h)) free same apart = let far = h.0 in absurd (omega (arith, far, same))
+
+    alike_over : d.module_number ≡ c.module_number → (p q : Play) (events : List Event) → (over p events).used ≡ false → Following d.module_number ⊥ p q
+        → ((x : Sym) → Following (suc x.number) (Unit {0}) p q) → WentAlike names C d c events (over p events) (over q events)
+    alike_over same p q events free (quiet {o = o} {s = s} {t = t} u g end states) narrowly =
+        record {
+          end = o;
+          first = refl;
+          second = refl;
+          steps = states.steps;
+          used = states.used;
+          no_call = (refl, refl);
+          after = agree_after names is C closed d.module_number d.shared u g s.definitions t.definitions states.definitions;
+          untouched = (
+            λ x apart less. untouched_at d.module_number d.shared d s.definitions u states.outside.0 x apart less,
+            λ x apart less. untouched_at d.module_number d.shared c t.definitions u states.outside.1 x apart (omega (arith, less, same)),
+          );
+          unchanged = λ number. (
+            λ x apart. (unchanged_at x o o s t (narrowly x) free number apart).0,
+            λ x apart. (unchanged_at x o o s t (narrowly x) free number apart).1,
+          );
+        }
+    alike_over same p q events free (used h) narrowly = absurd (true≢false (sym (used_over h events) ∙ free))
+    alike_over same p q events free (taken narrow h) narrowly = absurd narrow
 
 one_way : (set : Setting) → IsNames set.names → (C : Sym → Type 0) (d c : Definitions) → IsClosed set.names d C → AgreeOn set.names C d c
     → (e : Tree) (events : List Event) → StandsIn C e → (eval set d e events).used ≡ false
     → WentAlike set.names C d c events (eval set d e events) (eval set c e events)
 unfolding eval
 one_way set is C d c close one e events stands free =
-    alike_over set.names is C close.table d c one.number set (whole set d e) (whole set c e) events free
-    (eval_at_follows (realm set.names is C close.table d.module_number) (λ x. tt) d.shared set.shown set.mode set.kernel set.limits d c set.limits.recursion start e (begun d) (begun c)
-    (stands_in C e stands)
-    (record {
-      definitions = agree_at set.names is C close.table d.module_number d c close one;
-      steps = refl;
-      used = refl;
-      start = le_refl d.module_number;
-      outside = (λ x. new refl, λ x. new refl);
-    }))
+    alike_over set.names is C close.table set d c one.number (whole set d e) (whole set c e) events free
+    (follows d.module_number ⊥ (inl (le_refl d.module_number))) (λ x. follows (suc x.number) (Unit {0}) (inr (tt, refl)))
+  where
+    follows : (first : ℕ) (narrow : Type 0) → (first ≤ d.module_number) ⊎ (narrow × (d.module_number ≡ d.module_number))
+        → Following set.names is C close.table set d c first narrow (whole set d e) (whole set c e)
+    follows first narrow begins =
+        eval_at_follows (realm set.names is C close.table first) (λ x. tt) d.shared set.shown set.mode set.kernel set.limits narrow d.module_number d c set.limits.recursion start e (begun d) (begun c)
+        (stands_in C e stands)
+        (record {
+          definitions = agree_at set.names is C close.table first d c close one;
+          steps = refl;
+          used = refl;
+          start = begins;
+          within = omega arith;
+          outside = (λ x. new refl, λ x. new refl);
+        })
 
 -- ---- the other way round
 
@@ -262,8 +292,8 @@ closed_turned names C d c close one =
       table = close.table;
     }
 
-went_turned : (names : Names) (C : Sym → Type 0) (d c : Definitions) (events : List Event) (a b : Evaluation) → WentAlike names C d c events a b → WentAlike names C c d events b a
-went_turned names C d c events a b went =
+went_turned : (names : Names) (C : Sym → Type 0) (d c : Definitions) → AgreeOn names C d c → (events : List Event) (a b : Evaluation) → WentAlike names C d c events a b → WentAlike names C c d events b a
+went_turned names C d c one events a b went =
     record {
       end = went.end;
       first = went.second;
@@ -273,6 +303,7 @@ went_turned names C d c events a b went =
       no_call = (went.no_call.1, went.no_call.0);
       after = turned names C a.definitions b.definitions went.after;
       untouched = (went.untouched.1, went.untouched.0);
+      unchanged = λ number. let both = went.unchanged (went.after.number ∙ (number ∙ sym one.number)) in (both.1, both.0);
     }
 
 pub framed : (set : Setting) → IsNames set.names → (C : Sym → Type 0) (d c : Definitions) → IsClosed set.names d C → AgreeOn set.names C d c
@@ -283,7 +314,7 @@ framed set is C d c close one e events stands free = go (eval set d e events).us
     go : (a b : Bool) → (eval set d e events).used ≡ a → (eval set c e events).used ≡ b → (a && b) ≡ false → WentAlike set.names C d c events (eval set d e events) (eval set c e events)
     go false b x y free = one_way set is C d c close one e events stands x
     go true false x y free =
-        went_turned set.names C c d events (eval set c e events) (eval set d e events)
+        went_turned set.names C c d (turned set.names C d c one) events (eval set c e events) (eval set d e events)
         (one_way set is C c d (closed_turned set.names C d c close one) (turned set.names C d c one) e events stands y)
     go true true x y free = absurd (true≢false free)
 

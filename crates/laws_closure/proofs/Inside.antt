@@ -7,6 +7,7 @@ use Rattle.expr_tree.specs.declared.sym.Sym.{Sym}
 use Rattle.expr_tree.specs.Tree.{Tree, integer, string, symbol, normal, Trees, nil, cons, elements, trees, call}
 use Rattle.expr_tree.specs.Order.{tree_cmp, same_symbol}
 use Rattle.semantics.specs.declared.builtin.Builtin.{Builtin}
+use Rattle.laws_closure.specs.Throws.{may_throw}
 use Rattle.semantics.specs.Names.{Names, known, name, is_known, is_name, is_call, items_of, head_of, make}
 use Rattle.semantics.specs.Steps.{splice, unwrapped, strip, is_call_of, flatten_item, flatten_items, flatten, put_in, ordered, first_or, rest_of, heads_of, tails_of, threads, thread, first_length, all_of_length}
 use Rattle.expr_tree.specs.Shapes.{symbol_of}
@@ -159,12 +160,12 @@ module _ (C : Sym → Type 0) where
   -- ---- what needs the table
 
   -- a set that holds the table wherever one of its members is a name of it
-  module _ (names : Names) (Table : Type 0) (knows : Table → (r : Builtin) → C (known names r)) (tabled : (r : Builtin) (s : Sym) → C s → is_known names r s ≡ true → Table) where
-    pub named : Table → (r : Builtin) → In (name names r)
-    named t r = knows t r
+  module _ (names : Names) (Table : Type 0) (knows : Table → (r : Builtin) → may_throw r ≡ false → C (known names r)) (tabled : (r : Builtin) (s : Sym) → C s → is_known names r s ≡ true → Table) where
+    pub named : Table → (r : Builtin) → may_throw r ≡ false → In (name names r)
+    named t r calm = knows t r calm
 
-    pub made : Table → (r : Builtin) (es : List Tree) → AllIn es → In (make names r es)
-    made t r es all = (knows t r, packed es all)
+    pub made : Table → (r : Builtin) → may_throw r ≡ false → (es : List Tree) → AllIn es → In (make names r es)
+    made t r calm es all = (knows t r calm, packed es all)
 
     pub call_tabled : (r : Builtin) (e : Tree) → In e → is_call names r e ≡ true → Table
     call_tabled r (integer n) one is = absurd (true≢false (sym is))
@@ -198,7 +199,7 @@ module _ (C : Sym → Type 0) where
     tails_in [] all = tt
     tails_in (e ∷ es) all =
         chosen AllIn (is_call names Builtin.List e)
-        (λ is. (made (call_tabled Builtin.List e all.0 is) Builtin.List (rest_of (items_of e)) (rest_in (items_of e) (items e all.0)), tails_in es all.1))
+        (λ is. (made (call_tabled Builtin.List e all.0 is) Builtin.List refl (rest_of (items_of e)) (rest_in (items_of e) (items e all.0)), tails_in es all.1))
         (all.0, tails_in es all.1)
 
     threads_in : (s : Sym) → C s → (n : ℕ) (es : List Tree) → AllIn es → AllIn (threads names s n es)
@@ -231,9 +232,9 @@ module _ (C : Sym → Type 0) where
     value_in (c ∷ b) s all = either (Opt (λ run. Table × AllIn run)) (same_symbol c.0 s) all.0 (value_in b s all.1)
 
     pub one_in : Table → (run : List Tree) → AllIn run → In (as_one names run)
-    one_in t [] all = made t Builtin.Sequence [] tt
+    one_in t [] all = made t Builtin.Sequence refl [] tt
     one_in t (e ∷ []) all = all.0
-    one_in t (e ∷ f ∷ es) all = made t Builtin.Sequence (e ∷ f ∷ es) all
+    one_in t (e ∷ f ∷ es) all = made t Builtin.Sequence refl (e ∷ f ∷ es) all
 
     value_or_in : (s : Sym) (o : Option (List Tree)) → C s → Opt (λ run. Table × AllIn run) o → In (value_or_symbol (known names Builtin.Sequence) s o)
     value_or_in s None one all = one

@@ -1,5 +1,5 @@
 -- Rows of lists: each symbol of a result stands in the items or in the table.
-use Rattle.std.proofs.Common.{ℕ, zero, suc, List, [], ◌∷◌, ◌++◌, map, length, reverse, take, drop, Option, Some, None}
+use Rattle.std.proofs.Common.{false, ◌≡◌, refl, ℕ, zero, suc, List, [], ◌∷◌, ◌++◌, map, length, reverse, take, drop, Option, Some, None}
 use Rattle.std.specs.Prelude.{ℤ, pos, negsuc, ◌+ℤ◌, ◌+◌, leb}
 use Rattle.std.specs.Ordering.{int_eq}
 use Rattle.expr_tree.specs.declared.sym.Sym.{Sym}
@@ -11,6 +11,7 @@ use Rattle.semantics.specs.Steps.{ordered}
 use Rattle.semantics.specs.Worked.{Stays, Gives}
 use Rattle.semantics.specs.Lists as Lists
 use Rattle.semantics.specs.Table.{ordered_q}
+use Rattle.laws_closure.specs.Throws.{may_throw}
 use Rattle.laws_closure.proofs.Inside.{both, Each, Opt, perhaps, appended, mapped, reversed, taken, dropped, replicated, In, Ins, AllIn, listed, called, items, in_order}
 use Rattle.laws_closure.proofs.NumberRows.{Fine, makes, true_or_false}
 
@@ -227,25 +228,25 @@ module _ (C : Sym → Type 0) where
         both (Opt (Each (AllIn C))) (is_call names Builtin.List e)
         (perhaps (Each (AllIn C)) (Opt (Each (AllIn C))) (Lists.rows_of names es) (rows_of_in es all.1) tt (λ rs rs_in. (items C e all.0, rs_in))) tt
 
-    module _ (knows : (r : Builtin) → C (known names r)) where
+    module _ (knows : (r : Builtin) → may_throw r ≡ false → C (known names r)) where
       pub range_in : (es : List Tree) → Fine C (Lists.range names es)
-      range_in (integer b ∷ []) = makes C names knows Builtin.List _ (counted_in _ _ _)
-      range_in (integer a ∷ integer b ∷ []) = makes C names knows Builtin.List _ (counted_in _ _ _)
-      range_in (integer a ∷ integer b ∷ integer d ∷ []) = both (Fine C) (int_eq d (pos 0)) tt (makes C names knows Builtin.List _ (counted_in _ _ _))
+      range_in (integer b ∷ []) = makes C names knows Builtin.List refl _ (counted_in _ _ _)
+      range_in (integer a ∷ integer b ∷ []) = makes C names knows Builtin.List refl _ (counted_in _ _ _)
+      range_in (integer a ∷ integer b ∷ integer d ∷ []) = both (Fine C) (int_eq d (pos 0)) tt (makes C names knows Builtin.List refl _ (counted_in _ _ _))
       range_in _ = tt
 
       pub total_in : (es : List Tree) → AllIn C es → Fine C (Lists.total names es)
-      total_in (e ∷ []) all = both (Fine C) (is_call names Builtin.List e) (makes C names knows Builtin.Plus (items_of e) (items C e all.0)) tt
+      total_in (e ∷ []) all = both (Fine C) (is_call names Builtin.List e) (makes C names knows Builtin.Plus refl (items_of e) (items C e all.0)) tt
       total_in _ all = tt
 
       pub union_in : (es : List Tree) → AllIn C es → Fine C (Lists.union names es)
       union_in [] all = tt
       union_in (e ∷ es) all =
           perhaps (AllIn C) (Fine C) (Lists.all_lists names (e ∷ es)) (all_lists_in (e ∷ es) all) tt
-          (λ fs fs_in. makes C names knows Builtin.List _ (distinct_in (ordered fs) (in_order C fs fs_in)))
+          (λ fs fs_in. makes C names knows Builtin.List refl _ (distinct_in (ordered fs) (in_order C fs fs_in)))
 
       pub join_in : (es : List Tree) → AllIn C es → Fine C (Lists.join names es)
-      join_in [] all = makes C names knows Builtin.List [] tt
+      join_in [] all = makes C names knows Builtin.List refl [] tt
       join_in (normal h fs ∷ es) all =
           perhaps (AllIn C) (Fine C) (Lists.joined h es) (joined_in h es all.1) tt
           (λ gs gs_in. called C h _ all.0.0 (appended (In C) (elements fs) gs (listed C fs all.0.1) gs_in))
@@ -253,11 +254,11 @@ module _ (C : Sym → Type 0) where
 
       columns_in : (i n : ℕ) (rs : List (List Tree)) → Each (AllIn C) rs → AllIn C (Lists.columns names i n rs)
       columns_in i zero rs all = tt
-      columns_in i (suc n) rs all = (makes C names knows Builtin.List _ (column_in i rs all), columns_in (suc i) n rs all)
+      columns_in i (suc n) rs all = (makes C names knows Builtin.List refl _ (column_in i rs all), columns_in (suc i) n rs all)
 
       transposed_in : (rs : List (List Tree)) → Each (AllIn C) rs → Fine C (Lists.transposed names rs)
       transposed_in [] all = tt
-      transposed_in (r ∷ rs) all = both (Fine C) (Lists.all_long (length r) rs) (makes C names knows Builtin.List _ (columns_in 0 (length r) (r ∷ rs) all)) tt
+      transposed_in (r ∷ rs) all = both (Fine C) (Lists.all_long (length r) rs) (makes C names knows Builtin.List refl _ (columns_in 0 (length r) (r ∷ rs) all)) tt
 
       pub transpose_in : (es : List Tree) → AllIn C es → Fine C (Lists.transpose names es)
       transpose_in (e ∷ []) all =
@@ -266,13 +267,13 @@ module _ (C : Sym → Type 0) where
       transpose_in _ all = tt
 
       pub constant_array_in : (es : List Tree) → AllIn C es → Fine C (Lists.constant_array names es)
-      constant_array_in (x ∷ integer (pos n) ∷ []) all = makes C names knows Builtin.List _ (replicated (In C) n x all.0)
-      constant_array_in (x ∷ integer (negsuc n) ∷ []) all = makes C names knows Builtin.List [] tt
+      constant_array_in (x ∷ integer (pos n) ∷ []) all = makes C names knows Builtin.List refl _ (replicated (In C) n x all.0)
+      constant_array_in (x ∷ integer (negsuc n) ∷ []) all = makes C names knows Builtin.List refl [] tt
       constant_array_in _ all = tt
 
       pub array_in : (es : List Tree) → AllIn C es → Fine C (Lists.array names es)
-      array_in (f ∷ integer (pos n) ∷ []) all = makes C names knows Builtin.List _ (each_mapped f _ all.0 (counted_in _ _ n))
-      array_in (f ∷ integer (negsuc n) ∷ []) all = makes C names knows Builtin.List [] tt
+      array_in (f ∷ integer (pos n) ∷ []) all = makes C names knows Builtin.List refl _ (each_mapped f _ all.0 (counted_in _ _ n))
+      array_in (f ∷ integer (negsuc n) ∷ []) all = makes C names knows Builtin.List refl [] tt
       array_in _ all = tt
 
       pub ordered_q_in : (es : List Tree) → Fine C (ordered_q names es)

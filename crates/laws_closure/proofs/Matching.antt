@@ -7,13 +7,14 @@ use Rattle.semantics.specs.declared.builtin.Builtin.{Builtin}
 use Rattle.semantics.specs.Names.{Names, known, is_known, is_name}
 use Rattle.expr_tree.specs.Substitution.{Binding, value_of}
 use Rattle.semantics.specs.Match.{Guard, Test, Cond, Found, nothing_found, Matching, Taken, also_taken, also_left, joined, runs, choices, choices_up_to, ways, is_single, wrapped, same_run, bind, guarded, when, Kind, blank, sequence, null_sequence, pattern, test, condition, alternatives, hold, verbatim, other, kind, Matcher, Element, literal, match_items, match_normal, match_any, match_named, construct, is_construct, how_of, matcher, matchers, matches, asked, heads, heads_in, guard_expression, is_one, is_some_run, have_head, tree_list}
+use Rattle.laws_closure.specs.Throws.{may_throw}
 use Rattle.laws_closure.proofs.Inside.{both, chosen, Each, appended, mapped, In, Ins, AllIn, listed, called, name_tabled, AllBound, put_in_place_in}
 
 pub joined_each : {A : Type 0} (P : A → Type 0) (xss : List (List A)) → Each (Each P) xss → Each P (joined xss)
 joined_each P [] all = tt
 joined_each P (xs ∷ xss) all = appended P xs (joined xss) all.0 (joined_each P xss all.1)
 
-module _ (C : Sym → Type 0) (names : Names) (Table : Type 0) (knows : Table → (r : Builtin) → C (known names r)) (tabled : (r : Builtin) (s : Sym) → C s → is_known names r s ≡ true → Table) where
+module _ (C : Sym → Type 0) (names : Names) (Table : Type 0) (knows : Table → (r : Builtin) → may_throw r ≡ false → C (known names r)) (tabled : (r : Builtin) (s : Sym) → C s → is_known names r s ≡ true → Table) where
   abbrev pub GuardIn : Guard → Type 0
   GuardIn (Test t x) = In C t × In C x
   GuardIn (Cond c) = In C c
@@ -111,7 +112,12 @@ module _ (C : Sym → Type 0) (names : Names) (Table : Type 0) (knows : Table �
   tests_in : (t : Tree) (es : List Tree) → In C t → AllIn C es → Each GuardIn (map (Test t) es)
   tests_in t es one all = mapped (In C) GuardIn (Test t) (λ x x_in. (one, x_in)) es all
 
-  construct_in : (k : Kind) → (is_construct k ≡ true → Table) → (ps : List Element) (o : Matcher) → Each ElementIn ps → MatcherIn o → MatcherIn (construct names k ps o)
+  -- the kinds that have a name of the table
+  abbrev has_name : Kind → Bool
+  has_name other = false
+  has_name _ = true
+
+  construct_in : (k : Kind) → (has_name k ≡ true → Table) → (ps : List Element) (o : Matcher) → Each ElementIn ps → MatcherIn o → MatcherIn (construct names k ps o)
   construct_in blank t [] o all others es f run found = when_in (is_one es) f found
   construct_in blank t (h ∷ []) o all others es f run found = when_in (is_one es && have_head (tree_list (h ∷ [])) es) f found
   construct_in sequence t [] o all others es f run found = when_in (is_some_run es) f found
@@ -130,7 +136,7 @@ module _ (C : Sym → Type 0) (names : Names) (Table : Type 0) (knows : Table �
 
   -- a construct is a name of the table
   abbrev pub Constructed : Kind → Type 0
-  Constructed k = is_construct k ≡ true → Table
+  Constructed k = has_name k ≡ true → Table
 
   kind_in : (h : Tree) → In C h → Constructed (kind names h)
   kind_in h one =
@@ -159,9 +165,9 @@ module _ (C : Sym → Type 0) (names : Names) (Table : Type 0) (knows : Table �
   unfolding matches
   matches_in A p e one two = matcher_in A p one (e ∷ []) nothing_found (two, tt) (tt, tt)
 
-  asked_in : (h : Tree) → In C h → Each C (asked names h)
-  asked_in (symbol s) one = both (Each C) (is_construct (kind names (symbol s))) tt (one, tt)
-  asked_in _ one = tt
+  asked_in : (h : Tree) (ps : Trees) → In C h → Each C (asked names h ps)
+  asked_in (symbol s) ps one = both (Each C) (is_construct names (symbol s) ps) tt (one, tt)
+  asked_in _ ps one = tt
 
   mutual
     pub heads_inside : (p : Tree) → In C p → Each C (heads names p)
@@ -169,7 +175,7 @@ module _ (C : Sym → Type 0) (names : Names) (Table : Type 0) (knows : Table �
     heads_inside (string t) one = tt
     heads_inside (symbol s) one = tt
     heads_inside (normal h ps) one =
-        appended C (asked names h) (heads names h ++ heads_in names ps) (asked_in h one.0) (appended C (heads names h) (heads_in names ps) (heads_inside h one.0) (heads_in_inside ps one.1))
+        appended C (asked names h ps) (heads names h ++ heads_in names ps) (asked_in h ps one.0) (appended C (heads names h) (heads_in names ps) (heads_inside h one.0) (heads_in_inside ps one.1))
 
     heads_in_inside : (ps : Trees) → Ins C ps → Each C (heads_in names ps)
     heads_in_inside nil all = tt

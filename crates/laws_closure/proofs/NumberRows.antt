@@ -1,5 +1,5 @@
 -- Rows of numbers, tests and strings: each symbol of a result stands in the items or in the table.
-use Rattle.std.proofs.Common.{ℕ, zero, suc, Bool, true, false, List, [], ◌∷◌, map, Option, Some, None}
+use Rattle.std.proofs.Common.{◌≡◌, refl, ℕ, zero, suc, Bool, true, false, List, [], ◌∷◌, map, Option, Some, None}
 use Rattle.std.specs.Prelude.{ℤ, pos, negsuc, ◌*ℤ◌, ◌&&◌, ltb, ◌==◌, nat_abs, not, ◌^◌, neg_ℤ, chars, encode_utf8, ◌-ℤ◌}
 use Rattle.std.specs.Ordering.{int_eq}
 use Rattle.expr_tree.specs.declared.sym.Sym.{Sym}
@@ -12,6 +12,7 @@ use Rattle.semantics.specs.Worked.{Worked, Stays, Gives, TooWide, gives_int, all
 use Rattle.semantics.specs.Numbers.{Part, add_part, Gathered, numbers_of, written, assembled, term_in, term, times, write_term, gather_sum, sum_of, plus, factor_in, factor, write_factor, gather_product, product_of, product, is_even, int_power, integer_power, power_of, power, quotient_down, quotient, modulo, parity, minus, subtract, divide, absolute, sign, gcd_of, gcd, factorial, all_integers, best_of, extreme}
 use Rattle.semantics.specs.Tests.{all_same, some_same, all_data, neighbours_differ, equal, unequal, integers, chain, compared, negated, asked_of_one}
 use Rattle.semantics.specs.Strings.{join_texts, string_join, string_length, characters, string_reverse}
+use Rattle.laws_closure.specs.Throws.{may_throw}
 use Rattle.laws_closure.proofs.Inside.{both, Each, Opt, perhaps, In, AllIn, items, packed, in_order}
 
 module _ (C : Sym → Type 0) where
@@ -24,13 +25,13 @@ module _ (C : Sym → Type 0) where
   pub fine_int : (n : ℤ) → Fine (gives_int n)
   fine_int n = both Fine (in_range n) tt tt
 
-  module _ (names : Names) (knows : (r : Builtin) → C (known names r)) where
-    pub makes : (r : Builtin) (es : List Tree) → AllIn C es → In C (make names r es)
-    makes r es all = (knows r, packed C es all)
+  module _ (names : Names) (knows : (r : Builtin) → may_throw r ≡ false → C (known names r)) where
+    pub makes : (r : Builtin) → may_throw r ≡ false → (es : List Tree) → AllIn C es → In C (make names r es)
+    makes r calm es all = (knows r calm, packed C es all)
 
     pub true_or_false : (b : Bool) → In C (truth names b)
-    true_or_false true = knows Builtin.True
-    true_or_false false = knows Builtin.False
+    true_or_false true = knows Builtin.True refl
+    true_or_false false = knows Builtin.False refl
 
     -- ---- sums and products
 
@@ -47,15 +48,15 @@ module _ (C : Sym → Type 0) where
     written_in f each [] all = tt
     written_in f each (p ∷ ps) all = perhaps (In C) (AllIn C) (f p) (each p all.0) (written_in f each ps all.1) (λ e one. (one, written_in f each ps all.1))
 
-    assembled_in : (row : Builtin) (unit n : ℤ) (es : List Tree) → AllIn C es → In C (assembled names row unit n es)
-    assembled_in row unit n [] all = tt
-    assembled_in row unit n (e ∷ []) all = both (In C) (int_eq n unit) all.0 (makes row (integer n ∷ e ∷ []) (tt, all))
-    assembled_in row unit n (e ∷ f ∷ es) all =
-        both (In C) (int_eq n unit) (makes row (e ∷ f ∷ es) all) (makes row (integer n ∷ e ∷ f ∷ es) (tt, all))
+    assembled_in : (row : Builtin) → may_throw row ≡ false → (unit n : ℤ) (es : List Tree) → AllIn C es → In C (assembled names row unit n es)
+    assembled_in row calm unit n [] all = tt
+    assembled_in row calm unit n (e ∷ []) all = both (In C) (int_eq n unit) all.0 (makes row calm (integer n ∷ e ∷ []) (tt, all))
+    assembled_in row calm unit n (e ∷ f ∷ es) all =
+        both (In C) (int_eq n unit) (makes row calm (e ∷ f ∷ es) all) (makes row calm (integer n ∷ e ∷ f ∷ es) (tt, all))
 
     term_in_in : (e : Tree) (es : List Tree) → In C e → AllIn C es → In C (term_in names e es).rest
     term_in_in e (integer c ∷ x ∷ []) one all = all.1.0
-    term_in_in e (integer c ∷ x ∷ y ∷ ys) one all = makes Builtin.Times (x ∷ y ∷ ys) all.1
+    term_in_in e (integer c ∷ x ∷ y ∷ ys) one all = makes Builtin.Times refl (x ∷ y ∷ ys) all.1
     term_in_in e _ one all = one
 
     term_inside : (e : Tree) → In C e → In C (term names e).rest
@@ -64,7 +65,7 @@ module _ (C : Sym → Type 0) where
 
     times_in : (c : ℤ) (e : Tree) → In C e → In C (times names c e)
     times_in c e one =
-        both (In C) (is_call names Builtin.Times e) (makes Builtin.Times (integer c ∷ items_of e) (tt, items C e one)) (makes Builtin.Times (integer c ∷ e ∷ []) (tt, (one, tt)))
+        both (In C) (is_call names Builtin.Times e) (makes Builtin.Times refl (integer c ∷ items_of e) (tt, items C e one)) (makes Builtin.Times refl (integer c ∷ e ∷ []) (tt, (one, tt)))
 
     write_term_in : (p : Part) → In C p.rest → Opt (In C) (write_term names p)
     write_term_in p one =
@@ -80,7 +81,7 @@ module _ (C : Sym → Type 0) where
     sum_of_in : (g : Gathered) → Each PartIn g.parts → Fine (sum_of names g)
     sum_of_in g parts =
         both Fine (all_in_range (g.whole_part ∷ numbers_of g.parts))
-        (assembled_in Builtin.Plus (pos 0) g.whole_part _ (in_order C _ (written_in (write_term names) write_term_in g.parts parts))) tt
+        (assembled_in Builtin.Plus refl (pos 0) g.whole_part _ (in_order C _ (written_in (write_term names) write_term_in g.parts parts))) tt
 
     pub plus_in : (es : List Tree) → AllIn C es → Fine (plus names es)
     plus_in es all =
@@ -98,7 +99,7 @@ module _ (C : Sym → Type 0) where
     write_factor_in : (p : Part) → In C p.rest → Opt (In C) (write_factor names p)
     write_factor_in p one =
         both (Opt (In C)) (int_eq p.number (pos 0)) tt
-        (both (Opt (In C)) (int_eq p.number (pos 1)) one (makes Builtin.Power (p.rest ∷ integer p.number ∷ []) (one, (tt, tt))))
+        (both (Opt (In C)) (int_eq p.number (pos 1)) one (makes Builtin.Power refl (p.rest ∷ integer p.number ∷ []) (one, (tt, tt))))
 
     gather_product_in : (es : List Tree) (g : Gathered) → AllIn C es → Each PartIn g.parts → Each PartIn (gather_product names es g).parts
     gather_product_in [] g all parts = parts
@@ -111,7 +112,7 @@ module _ (C : Sym → Type 0) where
     product_of_in g parts =
         both Fine (int_eq g.whole_part (pos 0)) tt
         (both Fine (all_in_range (g.whole_part ∷ numbers_of g.parts))
-        (assembled_in Builtin.Times (pos 1) g.whole_part _ (in_order C _ (written_in (write_factor names) write_factor_in g.parts parts))) tt)
+        (assembled_in Builtin.Times refl (pos 1) g.whole_part _ (in_order C _ (written_in (write_factor names) write_factor_in g.parts parts))) tt)
 
     pub product_in : (es : List Tree) → AllIn C es → Fine (product names es)
     product_in es all =
@@ -139,7 +140,7 @@ module _ (C : Sym → Type 0) where
 
     power_again : (x : Tree) (w : Worked) → In C x → Fine w → Fine (elim w [ Gives e ↦ Gives (make names Builtin.Power (x ∷ e ∷ [])) | TooWide ↦ TooWide | Stays ↦ Stays ])
     power_again x Stays one fine = tt
-    power_again x (Gives e) one fine = makes Builtin.Power (x ∷ e ∷ []) (one, (fine, tt))
+    power_again x (Gives e) one fine = makes Builtin.Power refl (x ∷ e ∷ []) (one, (fine, tt))
     power_again x TooWide one fine = tt
 
     power_of_in : (x : Tree) (k : ℤ) → In C x → Fine (power_of names x k)
@@ -164,17 +165,17 @@ module _ (C : Sym → Type 0) where
     -- ---- the other rows of numbers
 
     pub minus_in : (es : List Tree) → AllIn C es → Fine (minus names es)
-    minus_in (x ∷ []) all = makes Builtin.Times (integer (negsuc 0) ∷ x ∷ []) (tt, all)
+    minus_in (x ∷ []) all = makes Builtin.Times refl (integer (negsuc 0) ∷ x ∷ []) (tt, all)
     minus_in _ all = tt
 
     pub subtract_in : (es : List Tree) → AllIn C es → Fine (subtract names es)
     subtract_in (a ∷ b ∷ []) all =
-        makes Builtin.Plus (a ∷ make names Builtin.Times (integer (negsuc 0) ∷ b ∷ []) ∷ []) (all.0, (makes Builtin.Times (integer (negsuc 0) ∷ b ∷ []) (tt, all.1), tt))
+        makes Builtin.Plus refl (a ∷ make names Builtin.Times (integer (negsuc 0) ∷ b ∷ []) ∷ []) (all.0, (makes Builtin.Times refl (integer (negsuc 0) ∷ b ∷ []) (tt, all.1), tt))
     subtract_in _ all = tt
 
     pub divide_in : (es : List Tree) → AllIn C es → Fine (divide names es)
     divide_in (a ∷ b ∷ []) all =
-        makes Builtin.Times (a ∷ make names Builtin.Power (b ∷ integer (negsuc 0) ∷ []) ∷ []) (all.0, (makes Builtin.Power (b ∷ integer (negsuc 0) ∷ []) (all.1.0, (tt, tt)), tt))
+        makes Builtin.Times refl (a ∷ make names Builtin.Power (b ∷ integer (negsuc 0) ∷ []) ∷ []) (all.0, (makes Builtin.Power refl (b ∷ integer (negsuc 0) ∷ []) (all.1.0, (tt, tt)), tt))
     divide_in _ all = tt
 
     pub quotient_in : (es : List Tree) → Fine (quotient es)
@@ -265,7 +266,7 @@ module _ (C : Sym → Type 0) where
     texts_in (c ∷ cs) = (tt, texts_in cs)
 
     pub characters_in : (es : List Tree) → Fine (characters names es)
-    characters_in (string t ∷ []) = makes Builtin.List _ (texts_in (chars t))
+    characters_in (string t ∷ []) = makes Builtin.List refl _ (texts_in (chars t))
     characters_in _ = tt
 
     pub string_reverse_in : (es : List Tree) → Fine (string_reverse es)

@@ -14,6 +14,7 @@ use Rattle.semantics.specs.Assemble.{flattened, threaded, sorted}
 use Rattle.semantics.specs.Sections.{accessed, access_or, unless_access, changes_rule, changes_value, same_share}
 use Rattle.semantics.specs.Pass.{marked, symbol_rules, up_rules, row_or_stay, built_in, down_rules, last_steps, left_standing, later_steps, symbol_row, symbol_pass, pass}
 use Rattle.laws_closure.proofs.Inside as Inside
+use Rattle.laws_closure.specs.Throws.{may_throw}
 use Rattle.laws_closure.proofs.Inside.{both, Each, Opt, In, AllIn, listed, called, name_tabled}
 use Rattle.laws_closure.proofs.Programs.{Realm, Has, HasAll, DefinedIn, SeenBoth, Both, done, look, moded, later_in, later_all, Later, from_later, now, branch, branch_if, option_both, itself, made, try_rules_both}
 use Rattle.laws_closure.proofs.FirstSteps.{first_steps_both, flattened_in, ThreadedIn, threaded_in, sorted_in, check_all_both}
@@ -50,7 +51,7 @@ module _ (R : Realm) where
       go None = next
       go (Some k) = branch R w (same_share k kind) moded next
 
-  accessed_in : (w : World) (h : Tree) (es : List Tree) → HasAll R w es → Opt (λ a. Member w a.0) (accessed names h es)
+  pub accessed_in : (w : World) (h : Tree) (es : List Tree) → HasAll R w es → Opt (λ a. Member w a.0) (accessed names h es)
   accessed_in w h [] all = tt
   accessed_in w h (symbol s ∷ es) all = both (Opt (λ a. Member w a.0)) (changes_rule names h || changes_value names h) all.0 tt
   accessed_in w h (integer n ∷ es) all = tt
@@ -79,17 +80,21 @@ module _ (R : Realm) where
       symbol_rules_both w (symbol_of x) e _ _ (Inside.symbol_in (Member w) x all.0) one
       (λ u g. up_rules_both xs u e p q (later_all R w u g xs all.1) (later_in R w u g e one) (from_later R w u g next))
 
-  row_or_stay_both : ((x : World) → R.Numbered x) → (w : World) (o : Option Builtin) (s : Sym) (es : List Tree) (e : Tree) (p q : Prog) → Opt (λ r. Table) o → HasAll R w es → Later R w p q
+  -- what running a row needs
+  abbrev Runs : Builtin → Type 0
+  Runs r = Table × (may_throw r ≡ true → R.Throwing)
+
+  row_or_stay_both : ((x : World) → R.Numbered x) → (w : World) (o : Option Builtin) (s : Sym) (es : List Tree) (e : Tree) (p q : Prog) → Opt Runs o → HasAll R w es → Later R w p q
       → Both R w (row_or_stay names o s es e p) (row_or_stay names o s es e q)
   row_or_stay_both may w None s es e p q t all next = now R w next
-  row_or_stay_both may w (Some r) s es e p q t all next = unless_access_both w (symbol s) es e _ _ _ _ all (row_both R t w r (λ is. may w) p q es next all)
+  row_or_stay_both may w (Some r) s es e p q t all next = unless_access_both w (symbol s) es e _ _ _ _ all (row_both R t.0 w r (λ is. may w) t.1 p q es next all)
 
-  role_in : (w : World) (s : Sym) → Member w s → Opt (λ r. Table) (role_of names s)
+  role_in : (w : World) (s : Sym) → Member w s → Opt Runs (role_of names s)
   role_in w s one = go (role_of names s) refl
     where
-      go : (o : Option Builtin) → role_of names s ≡ o → Opt (λ r. Table) o
+      go : (o : Option Builtin) → role_of names s ≡ o → Opt Runs o
       go None e = tt
-      go (Some r) e = has_role w r s one e
+      go (Some r) e = (has_role w r s one e, R.throwing w r s one e)
 
   pub built_in_both : ((x : World) → R.Numbered x) → (w : World) (s : Sym) (es : List Tree) (e : Tree) (p q : Prog) → Member w s → HasAll R w es → Later R w p q → Both R w (built_in names s es e p) (built_in names s es e q)
   built_in_both may w s es e p q one all next = row_or_stay_both may w (role_of names s) s es e p q (role_in w s one) all next
@@ -114,7 +119,7 @@ module _ (R : Realm) where
       (up_rules_both es w e _ _ all e_in
       (λ u g. down_rules_both may u h es e p q (later_in R w u g h one) (later_all R w u g es all) (later_in R w u g e e_in) (from_later R w u g next)))
 
-  left_standing_in : (w : World) (a : Attributes) (h : Tree) (es : List Tree) (e : Tree) → Has R w h → HasAll R w es → Has R w e → Has R w (left_standing names a h es e)
+  pub left_standing_in : (w : World) (a : Attributes) (h : Tree) (es : List Tree) (e : Tree) → Has R w h → HasAll R w es → Has R w e → Has R w (left_standing names a h es e)
   left_standing_in w a h es e one all e_in = both (Has R w) (not (has Builtin.HoldAllComplete a) && has_wrapper names es) (called (Member w) h es one all) e_in
 
   pub later_steps_both : ((x : World) → R.Numbered x) → (w : World) (h : Tree) (a : Attributes) (es : List Tree) → Has R w h → HasAll R w es → Both R w (later_steps names h a es) (later_steps names h a es)
@@ -129,7 +134,7 @@ module _ (R : Realm) where
       option_both R w (ThreadedIn R w) (threaded names h a flat) (threaded_in R w h a flat one flat_in)
       (last_steps_both may w a last (call h last) _ _ h last_in whole
       (λ u g. done (later_in R w u g (left_standing names a h es (call h last)) (left_standing_in w a h es (call h last) one all whole))) one)
-      (λ each t. check_all_both R w each _ _ t.1 (done (made R w t.0 Builtin.List each t.1)))
+      (λ each t. check_all_both R w each _ _ t.1 (done (made R w t.0 Builtin.List refl each t.1)))
 
   symbol_row_both : (w : World) (s : Sym) → Member w s → Both R w (symbol_row names s) (symbol_row names s)
   symbol_row_both w s one = branch R w (is_known names Builtin.KernelID s) moded (branch R w (is_known names Builtin.KernelCount s) moded (done one))

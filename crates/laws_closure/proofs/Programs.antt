@@ -13,6 +13,7 @@ use Rattle.semantics.specs.Match.{Guard, Test, Cond, Found, matches, heads, guar
 use Rattle.semantics.specs.Definitions.{Definition, has}
 use Rattle.semantics.specs.Program.{Prog, Done, Stops, Quits, Throws, Ask, Catches, Within, Look, Put, Fresh, Turn, Check, Moded, Local, Mode, Seen, look_all}
 use Rattle.semantics.specs.Attempt.{told, try_guards, try_binding, try_bindings, try_rule, try_rules}
+use Rattle.laws_closure.specs.Throws.{may_throw}
 use Rattle.laws_closure.proofs.Inside.{both, Each, Opt, appended, mapped, In, Ins, AllIn, items, packed, AllBound, put_in_place_in}
 use Rattle.laws_closure.proofs.Matching.{GuardIn, FoundIn, matches_in, heads_inside, guard_in}
 
@@ -31,7 +32,11 @@ pub record Realm : Type 1 where
   pub Table : Type 0
   -- where a module number may be taken
   pub Numbered : World → Type 0
-  pub knows : (w : World) → Table → (r : Builtin) → Member w (known names r)
+  -- where all rows may be run; elsewhere none by which there may be a throw
+  pub Throwing : Type 0
+  pub knows : (w : World) → Table → (r : Builtin) → may_throw r ≡ false → Member w (known names r)
+  pub knows_any : Throwing → (w : World) → Table → (r : Builtin) → Member w (known names r)
+  pub throwing : (w : World) (r : Builtin) (s : Sym) → Member w s → role_of names s ≡ Some r → may_throw r ≡ true → Throwing
   pub tabled : (w : World) (r : Builtin) (s : Sym) → Member w s → is_known names r s ≡ true → Table
   pub has_role : (w : World) (r : Builtin) (s : Sym) → Member w s → role_of names s ≡ Some r → Table
   -- a set with one symbol more
@@ -75,9 +80,9 @@ module _ (R : Realm) where
     done : {w : World} {e : Tree} → Has w e → Both w (Done e) (Done e)
     stop : {w : World} {c : Stop} → Both w (Stops c) (Stops c)
     leaves : {w : World} → Both w Quits Quits
-    throws : {w : World} {e : Tree} → Has w e → Both w (Throws e) (Throws e)
+    throws : {w : World} {e : Tree} → R.Throwing → Has w e → Both w (Throws e) (Throws e)
     ask : {w : World} {e : Tree} {k l : Tree → Prog} → Has w e → ((u : World) → grows w u → (v : Tree) → Has u v → Both u (k v) (l v)) → Both w (Ask e k) (Ask e l)
-    catches : {w : World} {e : Tree} {k l : Tree → Prog} → Has w e → ((u : World) → grows w u → (v : Tree) → Has u v → Both u (k v) (l v)) → Both w (Catches e k) (Catches e l)
+    catches : {w : World} {e : Tree} {k l : Tree → Prog} → R.Throwing → Has w e → ((u : World) → grows w u → (v : Tree) → Has u v → Both u (k v) (l v)) → Both w (Catches e k) (Catches e l)
     within : {w : World} {ls : List Local} {e : Tree} {k l : Tree → Prog} → Each (LocalIn w) ls → Has w e
         → ((u : World) → grows w u → (v : Tree) → Has u v → Both u (k v) (l v)) → Both w (Within ls e k) (Within ls e l)
     look : {w : World} {s : Sym} {k l : Seen → Prog} → Member w s → ((x y : Seen) → SeenBoth w x y → Both w (k x) (l y)) → Both w (Look s k) (Look s l)
@@ -193,11 +198,11 @@ module _ (R : Realm) where
   pub itself : (w : World) → LaterGives w Done Done
   itself w u g v one = done one
 
-  pub made : (w : World) → Table → (r : Builtin) (es : List Tree) → HasAll w es → Has w (make names r es)
-  made w t r es all = (knows w t r, packed (Member w) es all)
+  pub made : (w : World) → Table → (r : Builtin) → may_throw r ≡ false → (es : List Tree) → HasAll w es → Has w (make names r es)
+  made w t r calm es all = (knows w t r calm, packed (Member w) es all)
 
-  pub gives_name : (w : World) → Table → (r : Builtin) → Both w (Done (symbol (known names r))) (Done (symbol (known names r)))
-  gives_name w t r = done (knows w t r)
+  pub gives_name : (w : World) → Table → (r : Builtin) → may_throw r ≡ false → Both w (Done (symbol (known names r))) (Done (symbol (known names r)))
+  gives_name w t r calm = done (knows w t r calm)
 
   pub placed : (w : World) (b : Binding) (e : Tree) → BoundIn w b → Has w e → Has w (put_in_place names b e)
   placed w b e all one = put_in_place_in (Member w) names Table (knows w) (tabled w) b e all one
@@ -229,7 +234,7 @@ module _ (R : Realm) where
   pub result_of_in : (w : World) (e : Tree) → Has w e → Has w (result_of names e)
   result_of_in w e one = both (Has w) (is_call names Builtin.Condition e) (result_in_in w e (items_of e) one (items (Member w) e one)) one
 
-  guarding : (w : World) (b : Binding) (g : Guard) → BoundIn w b → GuardIn (Member w) names Table (knows w) (tabled w) g → Has w (guard_expression names b g)
+  pub guarding : (w : World) (b : Binding) (g : Guard) → BoundIn w b → GuardIn (Member w) names Table (knows w) (tabled w) g → Has w (guard_expression names b g)
   guarding w b g all one = guard_in (Member w) names Table (knows w) (tabled w) b g all one
 
   try_guards_both : (w : World) (b : Binding) (gs : List Guard) (p q p' q' : Prog) → BoundIn w b → GuardsIn w gs → Later w p p' → Later w q q'

@@ -1,5 +1,5 @@
 -- Module, Block, With, the application of a Function, replacing and the rows that ask for a match keep to a set of symbols that holds the table.
-use Rattle.std.proofs.Common.{◌≤◌, ℕ, zero, suc, Bool, true, false, List, [], ◌∷◌, ◌++◌, reverse, length, drop, Option, Some, None}
+use Rattle.std.proofs.Common.{refl, ◌≤◌, ℕ, zero, suc, Bool, true, false, List, [], ◌∷◌, ◌++◌, reverse, length, drop, Option, Some, None}
 use Rattle.std.specs.Prelude.{◌||◌, ltb}
 use Rattle.expr_tree.specs.declared.sym.Sym.{Sym}
 use Rattle.expr_tree.specs.Tree.{Tree, integer, string, symbol, normal, Trees, nil, cons, elements}
@@ -33,7 +33,7 @@ module _ (R : Realm) where
   local_of_in : (w : World) (e : Tree) → Has R w e → Opt (LocalIn R w) (local_of names e)
   local_of_in w e one = both (Opt (LocalIn R w)) (is_call names Builtin.Set e) (valued_local_in w (items_of e) (items (Member w) e one)) (plain_local_in w e one)
 
-  locals_of_in : (w : World) (es : List Tree) → HasAll R w es → Opt (LocalsIn w) (locals_of names es)
+  pub locals_of_in : (w : World) (es : List Tree) → HasAll R w es → Opt (LocalsIn w) (locals_of names es)
   locals_of_in w [] all = tt
   locals_of_in w (e ∷ es) all =
       perhaps (LocalIn R w) (Opt (LocalsIn w)) (local_of names e) (local_of_in w e all.0) tt
@@ -73,7 +73,7 @@ module _ (R : Realm) where
 
   -- ---- Module
 
-  renaming_in : Table → (w : World) (m : ℕ) (ls : List Local) → Each (λ l. Member w (renamed m l.symbol)) ls → BoundIn R w (renaming m ls)
+  pub renaming_in : Table → (w : World) (m : ℕ) (ls : List Local) → Each (λ l. Member w (renamed m l.symbol)) ls → BoundIn R w (renaming m ls)
   renaming_in t w m [] all = tt
   renaming_in t w m (l ∷ ls) all = ((t, (all.0, tt)), renaming_in t w m ls all.1)
 
@@ -249,8 +249,8 @@ module _ (R : Realm) where
   -- ---- whether a pattern matches
 
   truth_in : Table → (w : World) (b : Bool) → Has R w (truth names b)
-  truth_in t w true = knows w t Builtin.True
-  truth_in t w false = knows w t Builtin.False
+  truth_in t w true = knows w t Builtin.True refl
+  truth_in t w false = knows w t Builtin.False refl
 
   truth_both : Table → (w : World) (b : Bool) → Both R w (Done (truth names b)) (Done (truth names b))
   truth_both t w b = done (truth_in t w b)

@@ -2,7 +2,7 @@
 --     IsClosed              a set that holds the symbols of the definition of each of its members, and all of the table with one name of it
 --     AgreeOn               definitions that have the same shared symbols, the same module number, and on a set the same definitions
 --     Members               the members of a set that a test tells
---     Untouched             what is outside the set stays
+--     Untouched, Unchanged  what is outside the set stays, but for what a Module may have made; all of it
 --     StandsIn              an expression whose symbols are in a set
 --     Frame                 evaluations from definitions that agree on a closed set go the same way
 use Rattle.std.specs.Prelude.{◌≡◌, ◌<◌, List, Bool, true, false, ◌&&◌}
@@ -33,6 +33,10 @@ StandsIn C e = (s : Sym) → among s (symbols_of e) ≡ true → C s
 abbrev pub Untouched : Names → (Sym → Type 0) → Definitions → Definitions → Type 0
 Untouched names C d after = (s : Sym) → (C s → ⊥) → s.number < d.module_number → stored names after s ≡ stored names d s
 
+-- all of it, where no Module took a number
+abbrev pub Unchanged : Names → (Sym → Type 0) → Definitions → Definitions → Type 0
+Unchanged names C d after = (s : Sym) → (C s → ⊥) → stored names after s ≡ stored names d s
+
 -- two evaluations, from d and from c, that made no call and ended alike, in as many steps and with the same `used`; their definitions agree
 -- still, and neither touched what is outside the set
 pub record WentAlike (names : Names) (C : Sym → Type 0) (d c : Definitions) (events : List Event) (a b : Evaluation) : Type 0 where
@@ -44,6 +48,7 @@ pub record WentAlike (names : Names) (C : Sym → Type 0) (d c : Definitions) (e
   pub no_call : (a.rest ≡ events) × (b.rest ≡ events)
   pub after : AgreeOn names C a.definitions b.definitions
   pub untouched : Untouched names C d a.definitions × Untouched names C c b.definitions
+  pub unchanged : a.definitions.module_number ≡ d.module_number → Unchanged names C d a.definitions × Unchanged names C c b.definitions
 
 -- the members of a set that a test tells
 abbrev pub Members : (Sym → Bool) → Sym → Type 0

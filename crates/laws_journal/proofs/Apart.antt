@@ -6,7 +6,8 @@ use Rattle.expr_tree.specs.Order.{same_symbol}
 use Rattle.expr_tree.specs.Substitution.{among}
 use Rattle.semantics.specs.Definitions.{is_empty}
 use Rattle.journal.specs.Places.{nth, change_at, is_some}
-use Rattle.journal.specs.Entry.{Event, Posted, Handed}
+use Rattle.journal.specs.declared.event.Event.{Event}
+use Rattle.journal.specs.Entry.{Posted, Handed}
 use Rattle.journal.specs.Core.{Setup, Core, Kernel, start, locks_of, has_attempt, held_by_some, all_free, no_wait, in_evaluation, permitted, allowed, kernel_after, effect, replay_from}
 use Rattle.journal.specs.Spans.{Span, ends_section, next_end, span_by, sections, Before, NeverOverlap}
 use Rattle.laws_journal.proofs.Tables.{both, either, or_left, or_right, is_not, split, apart, same_symbol-eq, change_other, change_same}

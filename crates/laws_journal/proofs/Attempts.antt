@@ -3,8 +3,12 @@ use Rattle.std.proofs.Common.{◌≡◌, refl, sym, ap, subst, ◌∙◌, ℕ, z
 use Rattle.std.specs.Prelude.{◌&&◌, not, ◌==◌, replicate}
 use Rattle.expr_tree.specs.Tree.{Tree}
 use Rattle.journal.specs.Places.{nth, change_at, each_from}
-use Rattle.journal.specs.Entry.{Event, Item, Posted, Handed}
-use Rattle.journal.specs.Core.{Setup, Core, Kernel, new_kernel, Queued, Status, Waiting, Running, Done, Dropped, start, status_of, attempt_of, recovered, failed, fate, delivered, dropped, drops, status_after, queued_after, is_waiting, may_go, first_for, is_id, runs_or_dropped, permitted, allowed, with_item, items_after, kernel_after, effect, replay_from}
+use Rattle.journal.specs.declared.event.Event.{Event}
+use Rattle.journal.specs.declared.item.Item.{Item}
+use Rattle.journal.specs.Entry.{Posted, Handed}
+use Rattle.journal.specs.declared.item.Status.{Status}
+use Rattle.journal.specs.declared.item.Status.TheVariants.{Waiting, Running, Done, Dropped}
+use Rattle.journal.specs.Core.{Setup, Core, Kernel, new_kernel, Queued, start, status_of, attempt_of, recovered, failed, fate, delivered, dropped, drops, status_after, queued_after, is_waiting, may_go, first_for, is_id, runs_or_dropped, permitted, allowed, with_item, items_after, kernel_after, effect, replay_from}
 use Rattle.laws_journal.proofs.Tables.{both, none≢some, some_is, split, apart, each_nth, change_other, change_same}
 
 -- a pinned item runs on its kernel alone

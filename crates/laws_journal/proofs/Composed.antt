@@ -4,7 +4,9 @@ use Rattle.std.specs.Prelude.{◌&&◌, ◌≤◌, ◌+◌, leb}
 use Rattle.std.proofs.lemmas.Bool.{leb-true, leb-false}
 use Rattle.semantics.specs.Definitions.{empty}
 use Rattle.journal.specs.Places.{given, is_some}
-use Rattle.journal.specs.Entry.{Event, Entry, Handed, Posted}
+use Rattle.journal.specs.declared.event.Event.{Event}
+use Rattle.journal.specs.declared.event.Entry.{Entry}
+use Rattle.journal.specs.Entry.{Handed, Posted}
 use Rattle.journal.specs.Core.{Setup}
 use Rattle.journal.specs.Follow.{Plan, kernel_run, KernelRun, all_run}
 use Rattle.journal.specs.Run.{Walk, Course, Goes, UsedUp, Differs, going, or_differs, arrived, master_posts, Reading, Ran, run_cell, run_cells, first_losses, first_walk, run_along, is_over, closes, whole_run, used_by, kernels_run, legal, Legal}

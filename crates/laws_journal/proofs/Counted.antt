@@ -3,8 +3,13 @@ use Rattle.std.proofs.Common.{◌≡◌, refl, sym, ap, subst, ◌∙◌, ℕ, z
 use Rattle.std.specs.Prelude.{◌&&◌, ◌==◌}
 use Rattle.expr_tree.specs.Tree.{Tree}
 use Rattle.journal.specs.Places.{nth, each_from, member, is_some}
-use Rattle.journal.specs.Entry.{Event, Item, Posted, Handed, Wait}
-use Rattle.journal.specs.Core.{Setup, Core, Queued, Status, Waiting, Running, Done, Dropped, start, item_at, status_of, value_in, all_done, holds, fate, loss_results, delivered, delivered_results, dropped, drops, status_after, queued_after, results_given, is_waiting, may_go, first_for, is_id, runs_or_dropped, permitted, allowed, with_item, items_after, effect, replay_from}
+use Rattle.journal.specs.declared.event.Wait.{Wait}
+use Rattle.journal.specs.declared.event.Event.{Event}
+use Rattle.journal.specs.declared.item.Item.{Item}
+use Rattle.journal.specs.Entry.{Posted, Handed}
+use Rattle.journal.specs.declared.item.Status.{Status}
+use Rattle.journal.specs.declared.item.Status.TheVariants.{Waiting, Running, Done, Dropped}
+use Rattle.journal.specs.Core.{Setup, Core, Queued, start, item_at, status_of, value_in, all_done, holds, fate, loss_results, delivered, delivered_results, dropped, drops, status_after, queued_after, results_given, is_waiting, may_go, first_for, is_id, runs_or_dropped, permitted, allowed, with_item, items_after, effect, replay_from}
 use Rattle.journal.specs.Spans.{entry_results, results}
 use Rattle.laws_journal.proofs.Tables.{both, some_is, split, each_nth}
 

@@ -1,6 +1,6 @@
 -- Runs that come to their end.
 use Rattle.std.proofs.Common.{◌≡◌, refl, ap, Bool, true, false, List, [], ◌∷◌, Option, Some, None}
-use Rattle.journal.specs.Entry.{Entry}
+use Rattle.journal.specs.declared.event.Entry.{Entry}
 use Rattle.journal.specs.Core.{Core}
 use Rattle.journal.specs.Run.{Walk, Course, Goes, UsedUp, Differs, going, or_differs, no_entry, arrived}
 use Rattle.laws_journal.proofs.Tables.{none≢some, some_is}

@@ -4,8 +4,12 @@ use Rattle.std.specs.Prelude.{◌&&◌, not, ◌==◌, ◌⊎◌, replicate}
 use Rattle.expr_tree.specs.Tree.{Tree}
 use Rattle.journal.specs.declared.recover.Recover.{Recover}
 use Rattle.journal.specs.Places.{nth, change_at, each_from, is_some}
-use Rattle.journal.specs.Entry.{Event, Item, Posted, Handed}
-use Rattle.journal.specs.Core.{Setup, Core, Kernel, new_kernel, Queued, Status, Waiting, Running, Done, Dropped, start, status_of, attempt_of, lives, has_attempt, recovered, abandoned, failed, fate, runs_on, delivered, dropped, drops, status_after, queued_after, is_id, permitted, allowed, items_after, kernel_after, effect, replay_from}
+use Rattle.journal.specs.declared.event.Event.{Event}
+use Rattle.journal.specs.declared.item.Item.{Item}
+use Rattle.journal.specs.Entry.{Posted, Handed}
+use Rattle.journal.specs.declared.item.Status.{Status}
+use Rattle.journal.specs.declared.item.Status.TheVariants.{Waiting, Running, Done, Dropped}
+use Rattle.journal.specs.Core.{Setup, Core, Kernel, new_kernel, Queued, start, status_of, attempt_of, lives, has_attempt, recovered, abandoned, failed, fate, runs_on, delivered, dropped, drops, status_after, queued_after, is_id, permitted, allowed, items_after, kernel_after, effect, replay_from}
 use Rattle.laws_journal.specs.Views.{DoersAgree}
 use Rattle.laws_journal.proofs.Tables.{both, is_not, none≢some, some_is, split, apart, each_nth, change_other, change_same}
 use Rattle.laws_journal.proofs.Attempts.{pin_ok, pin_in, agrees_at_start, status_in, Agrees, after_entry, agrees_after, attempts, own_attempt, past}

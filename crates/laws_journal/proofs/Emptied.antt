@@ -7,7 +7,10 @@ use Rattle.semantics.specs.Definitions.{Definitions}
 use Rattle.semantics.specs.Program.{Request, Call, Mode}
 use Rattle.semantics.specs.Play.{Reply, Play, Over, Calls, whole}
 use Rattle.journal.specs.Closure.{bundle}
-use Rattle.journal.specs.Entry.{Event, Item, Handed, Wait}
+use Rattle.journal.specs.declared.event.Wait.{Wait}
+use Rattle.journal.specs.declared.event.Event.{Event}
+use Rattle.journal.specs.declared.item.Item.{Item}
+use Rattle.journal.specs.Entry.{Handed}
 use Rattle.semantics.specs.Ends.{aborted}
 use Rattle.journal.specs.Core.{Setup, null, all_free, count, in_mode}
 use Rattle.journal.specs.Forms.{Next, Replies, Awaits, Form, Answers, Submits, form}

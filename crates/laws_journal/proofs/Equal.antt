@@ -9,7 +9,8 @@ use Rattle.expr_tree.specs.Tree.{Tree}
 use Rattle.expr_tree.specs.Order.{text_cmp, same, same_symbol}
 use Rattle.expr_tree.proofs.Same.{tree_eq-true}
 use Rattle.semantics.specs.Eval.{same_symbols}
-use Rattle.journal.specs.Entry.{Event, Wait}
+use Rattle.journal.specs.declared.event.Wait.{Wait}
+use Rattle.journal.specs.declared.event.Event.{Event}
 use Rattle.journal.specs.Run.{same_ids, same_wait, is_event}
 use Rattle.laws_journal.proofs.Tables.{both, second_equal, is_equal, same_symbol-eq}
 

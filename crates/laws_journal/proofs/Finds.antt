@@ -6,8 +6,13 @@ use Rattle.semantics.specs.Definitions.{is_empty}
 use Rattle.semantics.specs.Names.{Names}
 use Rattle.journal.specs.declared.recover.Recover.{Recover}
 use Rattle.journal.specs.Places.{nth, is_some}
-use Rattle.journal.specs.Entry.{Event, Item, Posted, Wait}
-use Rattle.journal.specs.Core.{Setup, Core, Kernel, Queued, Status, Waiting, Running, Done, Dropped, start, status_of, lives, count_living, is_dropped, names_item, name_items, value_in, result_of, all_done, any_done, any_success, holds, recovered, abandoned, failed, runs_on, fate, delivered, status_after, is_waiting, may_go, first_for, may_yield, permitted, allowed, items_after, wait_after, effect, replay_from}
+use Rattle.journal.specs.declared.event.Wait.{Wait}
+use Rattle.journal.specs.declared.event.Event.{Event}
+use Rattle.journal.specs.declared.item.Item.{Item}
+use Rattle.journal.specs.Entry.{Posted}
+use Rattle.journal.specs.declared.item.Status.{Status}
+use Rattle.journal.specs.declared.item.Status.TheVariants.{Waiting, Running, Done, Dropped}
+use Rattle.journal.specs.Core.{Setup, Core, Kernel, Queued, start, status_of, lives, count_living, is_dropped, names_item, name_items, value_in, result_of, all_done, any_done, any_success, holds, recovered, abandoned, failed, runs_on, fate, delivered, status_after, is_waiting, may_go, first_for, may_yield, permitted, allowed, items_after, wait_after, effect, replay_from}
 use Rattle.laws_journal.specs.Views.{is_open_pin, is_for_items, StandInFinds}
 use Rattle.laws_journal.proofs.Tables.{both, is_not, none≢some, some_is, split}
 use Rattle.laws_journal.proofs.Attempts.{status_in, after_entry}

@@ -9,7 +9,8 @@ use Rattle.semantics.specs.Play.{Reply}
 use Rattle.semantics.specs.Eval.{same_symbols}
 use Rattle.journal.specs.Places.{nth, given, when, is_some}
 use Rattle.journal.specs.declared.loss.Loss.{Loss}
-use Rattle.journal.specs.Entry.{Event, Handed}
+use Rattle.journal.specs.declared.event.Event.{Event}
+use Rattle.journal.specs.Entry.{Handed}
 use Rattle.journal.specs.Core.{Setup, Core, Kernel, lives, attempt_of, count, has_attempt, no_wait, condition_holds, first_for, is_id, in_evaluation, service, permitted}
 use Rattle.journal.specs.Follow.{Attempt, Wants, Delivers, Quits, Stuck, Phase, Free, At, Lost, View, heard, attempted, stand_in_entry}
 use Rattle.laws_journal.proofs.Tables.{both, either, is_not, none≢some}

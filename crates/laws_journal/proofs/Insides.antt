@@ -11,7 +11,9 @@ use Rattle.semantics.specs.Opened.{opens}
 use Rattle.journal.specs.Places.{nth, change_at, given}
 use Rattle.journal.specs.Closure.{Bundle, install}
 use Rattle.journal.specs.declared.loss.Loss.{Loss}
-use Rattle.journal.specs.Entry.{Event, Item, Posted}
+use Rattle.journal.specs.declared.event.Event.{Event}
+use Rattle.journal.specs.declared.item.Item.{Item}
+use Rattle.journal.specs.Entry.{Posted}
 use Rattle.journal.specs.Core.{Setup, Core, in_mode, null, Kernel, new_kernel, start, locks_of, permitted, allowed, kernel_after, effect, replay_from}
 use Rattle.journal.specs.Follow.{Plan, Attempt, Wants, Delivers, Quits, attempt_of, after_quit, showing, valued, evaluated, applications, attempt, Phase, Free, At, Lost, View, heard, item_of, moved, is_lost, is_planned, or_planned, own_entry, with_handed, watch, watch_from, first_view, kernel_run}
 use Rattle.laws_journal.specs.Laws.{Ordered, wants, delivers, quits, stuck, StandsIn}

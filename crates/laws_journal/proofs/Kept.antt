@@ -7,7 +7,11 @@ use Rattle.semantics.specs.Definitions.{Definitions, empty}
 use Rattle.semantics.specs.Program.{Request, Call, Mode}
 use Rattle.semantics.specs.Play.{Reply, Play, Over, Calls, whole}
 use Rattle.journal.specs.Closure.{bundle}
-use Rattle.journal.specs.Entry.{Event, Entry, Item, Posted, Handed, Wait}
+use Rattle.journal.specs.declared.event.Wait.{Wait}
+use Rattle.journal.specs.declared.event.Event.{Event}
+use Rattle.journal.specs.declared.event.Entry.{Entry}
+use Rattle.journal.specs.declared.item.Item.{Item}
+use Rattle.journal.specs.Entry.{Posted, Handed}
 use Rattle.semantics.specs.Ends.{aborted}
 use Rattle.journal.specs.Core.{null, Setup, Core, step, all_free, wait_reply, count, in_mode}
 use Rattle.journal.specs.Forms.{Next, Replies, Awaits, Form, Answers, Submits, form}

@@ -1,5 +1,5 @@
-mod Tables
-mod Courses
+pub mod Tables
+pub mod Courses
 mod Apart
 mod Counted
 mod Grows
@@ -7,7 +7,7 @@ mod Kept
 mod Replayed
 mod Equal
 mod Forced
-mod Unique
+pub mod Unique
 mod Steps
 mod Attempts
 mod Views
@@ -17,11 +17,12 @@ mod Tidy
 mod Insides
 mod StandIn
 mod Quieted
-mod Seen
+pub mod Seen
 mod Composed
 mod Emptied
-mod Waiting
-mod Masters
+pub mod Waiting
+pub mod Masters
 mod Doers
 mod Pins
 mod Finds
+mod Symbols

@@ -10,7 +10,11 @@ use Rattle.semantics.specs.Opened.{opens, may_call, Orderly, ended, called}
 use Rattle.semantics.proofs.Opened.{sections_in_order}
 use Rattle.journal.specs.Places.{nth, change_at, given, is_some as there}
 use Rattle.journal.specs.Closure.{bundle}
-use Rattle.journal.specs.Entry.{Event, Entry, Item, Posted, Handed, Wait}
+use Rattle.journal.specs.declared.event.Wait.{Wait}
+use Rattle.journal.specs.declared.event.Event.{Event}
+use Rattle.journal.specs.declared.event.Entry.{Entry}
+use Rattle.journal.specs.declared.item.Item.{Item}
+use Rattle.journal.specs.Entry.{Posted, Handed}
 use Rattle.journal.specs.Core.{Setup, Core, Kernel, null, replay, no_wait, holds_nothing, has_attempt, condition_holds, all_free, count, permitted, allowed, kernel_after, wait_after, wait_reply, effect, in_mode}
 use Rattle.journal.specs.Follow.{Plan, Phase, Free, At, Lost, View, stand_in_entry, with_handed, watch, kernel_run, KernelRun}
 use Rattle.journal.specs.Forms.{Next, Replies, Awaits, Form, Answers, Submits, form}
@@ -31,11 +35,11 @@ use Rattle.laws_journal.proofs.Waiting.{Stands, Point, one_point}
 module _ (set : Setup) (plan : Plan) where
   -- ---- one post
 
-  posted_folds : (h : Handed) (w : Walk) (e : Entry) (es : List Entry) (v : Walk) → replay set w.posted ≡ Some w.core → post set h w e es ≡ Goes v → replay set v.posted ≡ Some v.core
+  pub posted_folds : (h : Handed) (w : Walk) (e : Entry) (es : List Entry) (v : Walk) → replay set w.posted ≡ Some w.core → post set h w e es ≡ Goes v → replay set v.posted ≡ Some v.core
   posted_folds h w e es v folds q = (post_good set (entries_of w.posted ++ e ∷ es) h w e es v (record { all = refl; folds = folds }) q).folds
 
   -- what the master's entry makes of its section, where it begins or ends no wait
-  abbrev Turns : Event → Bool → Bool → Type 0
+  abbrev pub Turns : Event → Bool → Bool → Type 0
   Turns (Event.Submit id) i a = i ≡ a
   Turns (Event.Ask n) i a = i ≡ a
   Turns (Event.Print t) i a = i ≡ a
@@ -100,19 +104,19 @@ module _ (set : Setup) (plan : Plan) where
   rest_holds w r = sym (ap holding (at_row w r).at) ∙ r.holds
 
   -- the master's next entry, taken apart
-  record Next' (event : Event) (h : Handed) (w v : Walk) : Type 0 where
-    entry : Entry
-    rest : List Entry
-    is : entry ≡ record { kernel = 0; event = event }
-    goes : post set h w entry rest ≡ Goes v
+  pub record Next' (event : Event) (h : Handed) (w v : Walk) : Type 0 where
+    pub entry : Entry
+    pub rest : List Entry
+    pub is : entry ≡ record { kernel = 0; event = event }
+    pub goes : post set h w entry rest ≡ Goes v
 
-  next_of : (event : Event) (h : Handed) (w v : Walk) (es : List Entry) → post_next set event h w es ≡ Goes v → Next' event h w v
+  pub next_of : (event : Event) (h : Handed) (w v : Walk) (es : List Entry) → post_next set event h w es ≡ Goes v → Next' event h w v
   next_of event h w v [] q = absurd (used≢goes q)
   next_of event h w v (e ∷ es) q =
       let s = goes_so ((e.kernel == 0) && is_event event e.event) (post set h w e es) v q in
       record { entry = e; rest = es; is = is_entry plan event e s.0; goes = s.1 }
 
-  turned : (event : Event) (h : Handed) (i a : Bool) (w v : Walk) → AtRest set plan i w → Turns event i a → master_posts set event h w ≡ Goes v → AtRest set plan a v
+  pub turned : (event : Event) (h : Handed) (i a : Bool) (w v : Walk) → AtRest set plan i w → Turns event i a → master_posts set event h w ≡ Goes v → AtRest set plan a v
   turned event h i a w v r t q =
       let n = next_of event h w v w.rest q in
       let s = stepped plan set h w n.entry n.rest v n.goes in
@@ -136,11 +140,11 @@ module _ (set : Setup) (plan : Plan) where
 
   -- ---- waits
 
-  record Within (i : Bool) (w : Walk) : Type 0 where
-    folds : replay set w.posted ≡ Some w.core
-    view : View
-    seen : kernel_run set plan 0 w.posted ≡ Some view
-    point : Point i w.core view
+  pub record Within (i : Bool) (w : Walk) : Type 0 where
+    pub folds : replay set w.posted ≡ Some w.core
+    pub view : View
+    pub seen : kernel_run set plan 0 w.posted ≡ Some view
+    pub point : Point i w.core view
 
   stands_free : (i : Bool) (d : Definitions) (row : Kernel) → holds_some row ≡ i → Stands i (Free d) row
   stands_free true d row h = (h, refl)
@@ -150,7 +154,7 @@ module _ (set : Setup) (plan : Plan) where
   stands_at_end true d row h = h.0
   stands_at_end false d row h = h
 
-  yields : (wait : Wait) (h : Handed) (i : Bool) (w v : Walk) → AtRest set plan i w → master_posts set (Event.Yield wait) h w ≡ Goes v → Within i v
+  pub yields : (wait : Wait) (h : Handed) (i : Bool) (w v : Walk) → AtRest set plan i w → master_posts set (Event.Yield wait) h w ≡ Goes v → Within i v
   yields wait h i w v r q =
       let n = next_of (Event.Yield wait) h w v w.rest q in
       let s = stepped plan set h w n.entry n.rest v n.goes in
@@ -173,13 +177,13 @@ module _ (set : Setup) (plan : Plan) where
       }
 
   -- one entry more, whoever posts it
-  seen_one : (h : Handed) (w : Walk) (e : Entry) (es : List Entry) (v : Walk) (x : View) → kernel_run set plan 0 w.posted ≡ Some x → post set h w e es ≡ Goes v → Seen plan set v.posted
+  pub seen_one : (h : Handed) (w : Walk) (e : Entry) (es : List Entry) (v : Walk) (x : View) → kernel_run set plan 0 w.posted ≡ Some x → post set h w e es ≡ Goes v → Seen plan set v.posted
       → (u : View) × (kernel_run set plan 0 v.posted ≡ Some u) × (watch set plan 0 x (record { entry = e; handed = h }) ≡ Some u)
   seen_one h w e es v x seen q fine =
       let s = stepped plan set h w e es v q in
       (fine.0, fine.1, sym (steps_view set plan 0 w.posted (record { entry = e; handed = h }) x seen) ∙ (ap (kernel_run set plan 0) (sym s.posted) ∙ fine.1))
 
-  goes_further : (i : Bool) (w : Walk) (e : Entry) (es : List Entry) (v : Walk) → Within i w → is_resume e.event ≡ false → post set Handed.Nothing w e es ≡ Goes v → Seen plan set v.posted → Within i v
+  pub goes_further : (i : Bool) (w : Walk) (e : Entry) (es : List Entry) (v : Walk) → Within i w → is_resume e.event ≡ false → post set Handed.Nothing w e es ≡ Goes v → Seen plan set v.posted → Within i v
   goes_further i w e es v here n q fine =
       let s = stepped plan set Handed.Nothing w e es v q in
       let t = seen_one Handed.Nothing w e es v here.view here.seen q fine in
@@ -199,7 +203,7 @@ module _ (set : Setup) (plan : Plan) where
       (eqb-true k 0 (both (k == 0) (condition_holds set.names c) parts.0).0, is_not (has_attempt c 0) parts.1)
 
   -- a Resume is the master's, and comes between attempts
-  resumed : (i : Bool) (w : Walk) (e : Entry) (es : List Entry) (v : Walk) → Within i w → is_resume e.event ≡ true → post set Handed.Nothing w e es ≡ Goes v → AtRest set plan i v
+  pub resumed : (i : Bool) (w : Walk) (e : Entry) (es : List Entry) (v : Walk) → Within i w → is_resume e.event ≡ true → post set Handed.Nothing w e es ≡ Goes v → AtRest set plan i v
   resumed i w e es v here n q =
       between here.view.phase refl
     where

@@ -4,8 +4,12 @@ use Rattle.std.specs.Prelude.{◌&&◌, not, ◌==◌}
 use Rattle.expr_tree.specs.Tree.{Tree}
 use Rattle.journal.specs.Closure.{Bundle}
 use Rattle.journal.specs.Places.{nth, change_at, each_from}
-use Rattle.journal.specs.Entry.{Event, Item, Posted, Handed}
-use Rattle.journal.specs.Core.{Setup, Core, Kernel, Queued, Status, Waiting, Running, Done, Dropped, start, item_at, lives, failed, fate, delivered, dropped, drops, status_after, queued_after, is_waiting, may_submit, permitted, allowed, items_after, kernel_after, effect, replay_from}
+use Rattle.journal.specs.declared.event.Event.{Event}
+use Rattle.journal.specs.declared.item.Item.{Item}
+use Rattle.journal.specs.Entry.{Posted, Handed}
+use Rattle.journal.specs.declared.item.Status.{Status}
+use Rattle.journal.specs.declared.item.Status.TheVariants.{Waiting, Running, Done, Dropped}
+use Rattle.journal.specs.Core.{Setup, Core, Kernel, Queued, start, item_at, lives, failed, fate, delivered, dropped, drops, status_after, queued_after, is_waiting, may_submit, permitted, allowed, items_after, kernel_after, effect, replay_from}
 use Rattle.laws_journal.specs.Views.{is_open_pin, PinsLive}
 use Rattle.laws_journal.proofs.Tables.{both, none≢some, some_is, split, apart, each_nth, change_other, change_same}
 use Rattle.laws_journal.proofs.Attempts.{submitted, changed, taken_may}

@@ -1,7 +1,9 @@
 -- A legal journal is a replay: what the run posts along it is its entries, and the core at its end is their fold.
 use Rattle.std.proofs.Common.{◌≡◌, refl, sym, ap, subst, ◌∙◌, ℕ, Bool, true, false, List, [], ◌∷◌, ◌++◌, length, append-nil, Option, Some, None, true≢false}
 use Rattle.journal.specs.Places.{given}
-use Rattle.journal.specs.Entry.{Event, Entry, Posted, Handed}
+use Rattle.journal.specs.declared.event.Event.{Event}
+use Rattle.journal.specs.declared.event.Entry.{Entry}
+use Rattle.journal.specs.Entry.{Posted, Handed}
 use Rattle.journal.specs.Core.{Setup, Core, start, step, allowed, effect, replay, replay_from}
 use Rattle.journal.specs.Run.{Walk, Course, Goes, UsedUp, Differs, or_differs, Ran, used_by, begun_by, arrived, post, master_posts, Reading, run_along, closes, whole_run, posted_by, is_over}
 use Rattle.laws_journal.specs.Laws.{entries_of}

@@ -7,7 +7,9 @@ use Rattle.semantics.specs.Names.{Names}
 use Rattle.journal.specs.declared.loss.Loss.{Loss}
 use Rattle.journal.specs.Places.{nth, change_at, each_from, given}
 use Rattle.journal.specs.Closure.{Bundle}
-use Rattle.journal.specs.Entry.{Event, Item, Handed, Posted}
+use Rattle.journal.specs.declared.event.Event.{Event}
+use Rattle.journal.specs.declared.item.Item.{Item}
+use Rattle.journal.specs.Entry.{Handed, Posted}
 use Rattle.journal.specs.Core.{Setup, Core, Kernel, Queued, start, lives, new_kernel, permitted, may_submit, no_wait, may_yield, may_post, is_lent, allowed, items_after, queued_after, kernel_after, definitions_after, effect, replay_from}
 use Rattle.journal.specs.Follow.{Plan, Wants, Delivers, Quits, Phase, Free, At, Lost, View, heard, item_of, moved, is_lost, is_planned, or_planned, own_entry, entry_of, with_handed, watch, watch_from, first_view}
 use Rattle.laws_journal.specs.Views.{handed_for, needed, HandedNeeded, pair_of, ItemsAgree, own_entries, none_by, items_seen, OthersPass, ItemsStay, OwnCounted, LivesUnlessLost}

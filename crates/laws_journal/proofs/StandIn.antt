@@ -2,7 +2,8 @@
 use Rattle.std.proofs.Common.{◌≡◌, refl, sym, ap, subst, ◌∙◌, ℕ, zero, suc, Bool, true, false, List, [], ◌∷◌, Option, Some, None, eqb-true}
 use Rattle.std.specs.Prelude.{◌&&◌, not, ◌==◌, ◌≤◌}
 use Rattle.journal.specs.Places.{nth, change_at, given}
-use Rattle.journal.specs.Entry.{Event, Posted}
+use Rattle.journal.specs.declared.event.Event.{Event}
+use Rattle.journal.specs.Entry.{Posted}
 use Rattle.journal.specs.Core.{Setup, Core, Kernel, new_kernel, start, attempt_of, permitted, allowed, kernel_after, effect, replay_from}
 use Rattle.journal.specs.Follow.{Plan, Phase, Free, At, Lost, View, stand_in_entry, with_handed, watch, watch_from, first_view, kernel_run}
 use Rattle.laws_journal.specs.Laws.{Matches}

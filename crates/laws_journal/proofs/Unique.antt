@@ -9,7 +9,11 @@ use Rattle.semantics.specs.Play.{Reply, Play, Over, Calls, whole}
 use Rattle.journal.specs.Places.{nth, change_at, given, is_some}
 use Rattle.journal.specs.Closure.{bundle}
 use Rattle.journal.specs.declared.loss.Loss.{Loss}
-use Rattle.journal.specs.Entry.{Event, Entry, Item, Posted, Handed, Wait}
+use Rattle.journal.specs.declared.event.Wait.{Wait}
+use Rattle.journal.specs.declared.event.Event.{Event}
+use Rattle.journal.specs.declared.event.Entry.{Entry}
+use Rattle.journal.specs.declared.item.Item.{Item}
+use Rattle.journal.specs.Entry.{Posted, Handed}
 use Rattle.semantics.specs.Ends.{aborted}
 use Rattle.journal.specs.Core.{null, Setup, Core, Kernel, new_kernel, start, step, attempt_of, allowed, effect, permitted, kernel_after, wait_after, all_free, wait_reply, count, in_mode}
 use Rattle.journal.specs.Follow.{Plan, Wants, Delivers, Quits, Phase, Free, At, Lost, View, heard, stand_in_entry, entry_of, watch, watch_from, first_view, kernel_run, all_run, item_of, with_handed}

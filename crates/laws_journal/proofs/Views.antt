@@ -6,7 +6,9 @@ use Rattle.semantics.specs.Play.{Reply}
 use Rattle.journal.specs.Places.{nth, change_at, given}
 use Rattle.journal.specs.Closure.{Bundle}
 use Rattle.journal.specs.declared.loss.Loss.{Loss}
-use Rattle.journal.specs.Entry.{Event, Item, Posted}
+use Rattle.journal.specs.declared.event.Event.{Event}
+use Rattle.journal.specs.declared.item.Item.{Item}
+use Rattle.journal.specs.Entry.{Posted}
 use Rattle.journal.specs.Core.{Setup, Core, Kernel, new_kernel, start, attempt_of, allowed, kernel_after, effect, replay_from}
 use Rattle.journal.specs.Follow.{Plan, Wants, Delivers, Quits, Phase, Free, At, Lost, View, heard, item_of, moved, is_lost, is_planned, or_planned, own_entry, with_handed, watch, watch_from, first_view, kernel_run}
 use Rattle.laws_journal.specs.Laws.{Matches}

@@ -6,7 +6,10 @@ use Rattle.semantics.specs.Names.{Names}
 use Rattle.semantics.specs.Program.{Request, Call}
 use Rattle.journal.specs.Places.{nth, change_at, is_some}
 use Rattle.journal.specs.Closure.{Bundle}
-use Rattle.journal.specs.Entry.{Event, Item, Posted, Handed, Wait}
+use Rattle.journal.specs.declared.event.Wait.{Wait}
+use Rattle.journal.specs.declared.event.Event.{Event}
+use Rattle.journal.specs.declared.item.Item.{Item}
+use Rattle.journal.specs.Entry.{Posted, Handed}
 use Rattle.journal.specs.Core.{Setup, Core, Kernel, new_kernel, start, attempt_of, holds_nothing, is_id, permitted, allowed, kernel_after, wait_after, effect, replay_from}
 use Rattle.journal.specs.Follow.{Plan, Attempt, Wants, Delivers, Quits, Stuck, attempted, Phase, Free, At, Lost, View, stand_in_entry, watch, watch_from, first_view}
 use Rattle.journal.specs.Run.{is_resume}
@@ -93,7 +96,7 @@ beside_locks set c h items id a y (Event.Ask n) row ok held some o q = (some, at
 beside_locks set c h items id a y (Event.Print t) row ok held some o q = (some, attempt_moves set 0 items (At id a) y (Event.Print t) bare tt o q)
 beside_locks set c h items id a y Event.Close row ok held some o q = (some, attempt_moves set 0 items (At id a) y Event.Close bare tt o q)
 
-abbrev holding : Option Kernel → Bool
+abbrev pub holding : Option Kernel → Bool
 holding o = not (is_empty (elim o [ None ↦ [] | Some x ↦ x.locks ]))
 
 -- the entry of kernel 0, as the stand-in's

@@ -17,7 +17,11 @@ use Rattle.semantics.specs.Opened.{opens, may_call}
 use Rattle.journal.specs.Places.{member}
 use Rattle.journal.specs.Closure.{InClosure, reaches, closure}
 use Rattle.journal.specs.Cuts.{Method, Per, cut}
-use Rattle.journal.specs.Entry.{Wait, Event, Entry, Item, Posted}
+use Rattle.journal.specs.declared.event.Wait.{Wait}
+use Rattle.journal.specs.declared.event.Event.{Event}
+use Rattle.journal.specs.declared.event.Entry.{Entry}
+use Rattle.journal.specs.declared.item.Item.{Item}
+use Rattle.journal.specs.Entry.{Posted}
 use Rattle.journal.specs.Core.{Setup, Core, start, allowed, step, replay, attempt_of, holds_nothing, status_of, runs_or_dropped}
 use Rattle.journal.specs.Follow.{Plan, Attempt, Wants, Delivers, Quits, Stuck, attempt, View, Phase, Free, At, Lost, watch, kernel_run}
 use Rattle.journal.specs.Spans.{sections, NeverOverlap, results}

@@ -9,7 +9,9 @@ use Rattle.std.specs.Prelude.{◌≡◌, ℕ, ◌+◌, ◌≤◌, List, [], ◌+
 use Rattle.semantics.specs.Definitions.{Definitions, empty}
 use Rattle.semantics.specs.Program.{Call}
 use Rattle.semantics.specs.Play.{Play}
-use Rattle.journal.specs.Entry.{Event, Entry, Handed, Posted}
+use Rattle.journal.specs.declared.event.Event.{Event}
+use Rattle.journal.specs.declared.event.Entry.{Entry}
+use Rattle.journal.specs.Entry.{Handed, Posted}
 use Rattle.journal.specs.Core.{Setup, Core, replay}
 use Rattle.journal.specs.Follow.{Plan, KernelRun}
 use Rattle.journal.specs.Run.{Walk, Course, Goes, UsedUp, Differs, going, master_posts, answer, play_along, Reading, Ran, run_cells, first_losses, first_walk, run_along, begun_by, Legal, Started}

@@ -13,8 +13,12 @@
 use Rattle.std.specs.Prelude.{◌≡◌, ℕ, suc, ◌≤◌, List, [], ◌∷◌, ◌++◌, map, length, Bool, true, false, ◌&&◌, not, ◌==◌, Some, None}
 use Rattle.journal.specs.Places.{is_some}
 use Rattle.journal.specs.Closure.{Bundle}
-use Rattle.journal.specs.Entry.{Event, Wait, Item, Handed, Posted}
-use Rattle.journal.specs.Core.{Setup, Core, Queued, Status, count, condition_holds, first_for, item_at, status_of, attempt_of, lives, holds_nothing, allowed, effect, replay, replay_from}
+use Rattle.journal.specs.declared.event.Wait.{Wait}
+use Rattle.journal.specs.declared.event.Event.{Event}
+use Rattle.journal.specs.declared.item.Item.{Item}
+use Rattle.journal.specs.Entry.{Handed, Posted}
+use Rattle.journal.specs.declared.item.Status.{Status}
+use Rattle.journal.specs.Core.{Setup, Core, Queued, count, condition_holds, first_for, item_at, status_of, attempt_of, lives, holds_nothing, allowed, effect, replay, replay_from}
 use Rattle.journal.specs.Follow.{Plan, View, is_lost, with_handed, watch, watch_from, kernel_run}
 use Rattle.journal.specs.Run.{is_resume}
 use Rattle.laws_journal.specs.Laws.{StandsIn}

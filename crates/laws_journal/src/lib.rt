@@ -6,6 +6,7 @@
 ghost use Rattle.laws_journal.specs.Laws.{SectionsApart, OneResult, AllHaveResults, RunGrows, LegalReplays, OneJournal, EntryByEntry, AttemptsAgree, PhaseIsAttempt, ClosureIsLeast, CutsPartition, AttemptsOrdered, LocksAgree, QuietComputed, QuietNamedComputed};
 ghost use Rattle.laws_journal.specs.Masters.{CallsKeepSections, CellsKeepSections};
 ghost use Rattle.laws_journal.specs.Runs.{BegunReplays, CellsJoin, LegalComposed, LegalStarted, RunPosts, UsedUpStays};
+ghost use Rattle.laws_journal.specs.Symbols.{MembersTell, ClosuresAscend};
 ghost use Rattle.laws_journal.specs.Views.{DoersAgree, HandedNeeded, ItemsAgree, ItemsStay, LivesUnlessLost, OthersPass, OwnCounted, PinsLive, StandInFinds, StretchByStretch, WaitLocksAgree};
 
 /// Two sections that share a lock never overlap, in whatever is a replay.
@@ -58,6 +59,12 @@ pub fn closure_is_least()
     ensures law { ClosureIsLeast }
 {}
 
+/// Two lists of symbols in strict order that have the same members are one list, and a closure lists its symbols so.
+pub fn ascending_symbols_are_told_by_their_members()
+    ensures law { MembersTell }
+    ensures closures { ClosuresAscend }
+{}
+
 /// The chunks of a list are its elements in order, and none of them is empty.
 pub fn cuts_partition_the_list()
     ensures law { CutsPartition }
@@ -68,7 +75,8 @@ pub fn attempts_are_ordered()
     ensures law { AttemptsOrdered }
 {}
 
-/// A kernel that follows its evaluations holds locks, in the core, exactly where its attempt is inside a section.
+/// A kernel that follows its evaluations holds locks, in the core, where what is left of its attempt goes on inside a section, and none where it
+/// goes on outside.
 pub fn locks_are_the_section()
     ensures law { LocksAgree }
 {}

@@ -1,3 +1,5 @@
 pub mod Joins
 pub mod Patterns
 pub mod Bounds
+pub mod Heads
+pub mod Places

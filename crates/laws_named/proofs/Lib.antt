@@ -1,1 +1,3 @@
 pub mod Named
+pub mod Reached
+pub mod Quiet

@@ -1,5 +1,5 @@
 -- The bundle agrees with the definitions on the closure, which holds no name that a Module may make.
-use Rattle.std.proofs.Common.{◌≡◌, sym, ap, subst, ◌∙◌, ℕ, ◌+◌, ◌*◌, ◌<◌, true, List, []}
+use Rattle.std.proofs.Common.{◌≡◌, sym, ap, subst, ◌∙◌, ℕ, ◌+◌, ◌<◌, true, List, []}
 use Rattle.expr_tree.specs.declared.sym.Sym.{Sym}
 use Rattle.expr_tree.specs.Tree.{Tree}
 use Rattle.semantics.specs.Names.{IsNames}
@@ -18,11 +18,11 @@ use Rattle.laws_quiet.proofs.Quieted.{closure_closed, closed_again, agree_on, ag
 use Rattle.laws_shift.specs.Shift.{below, shared_below, with_number}
 use Rattle.laws_shift.specs.Carried.{SameButForNames}
 use Rattle.laws_shift.proofs.Carried.{carried}
-use Rattle.laws_named.specs.Named.{IsQuietButForNames, GivesValue, NamedAnywhere}
+use Rattle.laws_named.specs.Named.{IsNumbered, GivesNoNames, GivesValue, GivenAnywhere}
 
-module _ (set : Setup) (is : IsNames set.names) (d : Definitions) (free : NoNameShared set.names d) (a : Tree) (named : IsQuietButForNames set d a) (by : ℕ) (c : Definitions)
+module _ (set : Setup) (is : IsNames set.names) (d : Definitions) (free : NoNameShared set.names d) (a : Tree) (numbered : IsNumbered d) (one : GivesNoNames set d a) (by : ℕ) (c : Definitions)
     (agree : AgreeOn set.names (InClosure set.names d (symbols_of a)) (with_number (d.module_number + by) d) c)
-    (room : d.module_number + by + (set.limits.recursion * set.limits.steps + set.limits.recursion) < last_number) where
+    (room : (by_itself set d a).definitions.module_number + by < last_number) where
   abbrev C : Sym → Type 0
   C = InClosure set.names d (symbols_of a)
 
@@ -41,20 +41,20 @@ module _ (set : Setup) (is : IsNames set.names) (d : Definitions) (free : NoName
   as_item =
       carried (in_mode set Mode.Item 0) C by known c (closed_again set.names C d known (closure_closed set.names d (symbols_of a) free) agrees)
       (agree_on set.names C (with_number (known.module_number + by) known) (with_number (d.module_number + by) d) c renumbered agree)
-      (λ s s_in. subst (λ n. s.number < n) agrees.number (named.none_to_come s s_in))
-      (subst (λ n. shared_below n known.shared ≡ true) agrees.number (subst (λ l. shared_below d.module_number l ≡ true) agrees.shared named.shared))
-      (subst (λ n. 0 < n) agrees.number named.started) is a [] (λ s e. seed s e)
-      (subst (λ n. n + by + (set.limits.recursion * set.limits.steps + set.limits.recursion) < last_number) agrees.number room) named.unused
+      (λ s s_in. subst (λ n. s.number < n) agrees.number (one.none_to_come s s_in))
+      (subst (λ n. shared_below n known.shared ≡ true) agrees.number (subst (λ l. shared_below d.module_number l ≡ true) agrees.shared numbered.shared))
+      (subst (λ n. 0 < n) agrees.number numbered.started) is a [] (λ s e. seed s e)
+      room one.unused
 
-  pub in_any_mode : (mode : Mode) (kernel : ℕ) (events : List Event) → GivesValue set d a named.value events (eval (in_mode set mode kernel) c a events)
+  pub in_any_mode : (mode : Mode) (kernel : ℕ) (events : List Event) → GivesValue set d a one.value by events (eval (in_mode set mode kernel) c a events)
   in_any_mode mode kernel events =
-      let gives : (eval (in_mode set Mode.Item 0) c a []).outcome ≡ Ended (Value named.value) =
-      as_item.same_value named.value (subst (λ n. below n named.value ≡ true) agrees.number named.plain) named.gives in
-      let any = eval_any (in_mode set Mode.Item 0) c a (Value named.value) events gives in
+      let gives : (eval (in_mode set Mode.Item 0) c a []).outcome ≡ Ended (Value one.value) =
+      as_item.same_value one.value (subst (λ n. below n one.value ≡ true) agrees.number one.plain) one.gives in
+      let any = eval_any (in_mode set Mode.Item 0) c a (Value one.value) events gives in
       let moved : eval (in_mode set mode kernel) c a events ≡ eval (in_mode set Mode.Item 0) c a events =
       mode_independent (in_mode set Mode.Item 0) mode kernel c a events (any.used ∙ as_item.used) in
-      subst (λ r. GivesValue set d a named.value events r) (sym moved)
-      (record { outcome = any.outcome ∙ gives; steps = any.steps ∙ as_item.steps; used = any.used ∙ as_item.used; no_call = any.rest })
+      subst (λ r. GivesValue set d a one.value by events r) (sym moved)
+      (record { outcome = any.outcome ∙ gives; steps = any.steps ∙ as_item.steps; number = ap (λ x. x.module_number) any.definitions ∙ as_item.number; used = any.used ∙ as_item.used; no_call = any.rest })
 
-pub named_anywhere : NamedAnywhere
-named_anywhere set is d free a named by c agree room mode kernel events = in_any_mode set is d free a named by c agree room mode kernel events
+pub given_anywhere : GivenAnywhere
+given_anywhere set is d free numbered a one by c agree room mode kernel events = in_any_mode set is d free a numbered one by c agree room mode kernel events

@@ -1,5 +1,5 @@
 -- A list of quiet applications, evaluated in turn: none touches what the others stand on.
-use Rattle.std.proofs.Common.{◌≡◌, refl, sym, ap, subst, ◌∙◌, ℕ, ◌<◌, Bool, true, false, List, [], ◌∷◌, true≢false}
+use Rattle.std.proofs.Common.{◌≡◌, refl, sym, ap, subst, ◌∙◌, ℕ, Bool, true, false, List, [], ◌∷◌, true≢false}
 use Rattle.expr_tree.specs.declared.sym.Sym.{Sym}
 use Rattle.expr_tree.specs.Tree.{Tree}
 use Rattle.expr_tree.specs.Substitution.{among}
@@ -25,8 +25,7 @@ more_seeds names d ss ts more s (named _ h) = named s h
 more_seeds names d ss ts more t (followed s _ i free at) = followed s t (more_seeds names d ss ts more s i) free at
 more_seeds names d ss ts more t (table s _ i free row other) = table s t (more_seeds names d ss ts more s i) free row other
 
-module _ (set : Setup) (is : IsNames set.names) (d : Definitions) (free : NoNameShared set.names d) (seeds : List Sym)
-    (to_come : (s : Sym) → InClosure set.names d seeds s → s.number < d.module_number) where
+module _ (set : Setup) (is : IsNames set.names) (d : Definitions) (free : NoNameShared set.names d) (seeds : List Sym) where
   abbrev K : Sym → Type 0
   K = InClosure set.names d seeds
 
@@ -45,8 +44,7 @@ module _ (set : Setup) (is : IsNames set.names) (d : Definitions) (free : NoName
       go s s_in unshared true at =
           gives.after.same s (sound_closure set.names d (symbols_of a) s at) (subst (λ l. is_shared (record c { shared = l }) s ≡ false) one.shared unshared)
       go s s_in unshared false at =
-          sym (gives.untouched s (λ inside. absurd (true≢false (sym (complete_closure set.names d (symbols_of a) s inside) ∙ at)))
-          (subst (λ n. s.number < n) one.number (to_come s s_in)))
+          sym (gives.unchanged s (λ inside. absurd (true≢false (sym (complete_closure set.names d (symbols_of a) s inside) ∙ at))))
 
   -- agreement on the closure of one of them
   pub narrowed : (a : Tree) → ((s : Sym) → among s (symbols_of a) ≡ true → among s seeds ≡ true) → (c : Definitions) → AgreeOn set.names K d c → AgreeOn set.names (InClosure set.names d (symbols_of a)) d c
@@ -64,8 +62,8 @@ module _ (set : Setup) (is : IsNames set.names) (d : Definitions) (free : NoName
       λ i. (gives.outcome ∙ sym (ap (λ v. Outcome.Ended (End.Value v)) value)) i ∷ rest i
 
 pub batch_anywhere : BatchAnywhere
-batch_anywhere set is d free es to_come quiet mode kernel left = (
-  batch set is d free (symbols_of_all es) to_come es quiet (λ s h. h) mode kernel (install set.names left (bundle set.names d (symbols_of_all es)))
+batch_anywhere set is d free es quiet mode kernel left = (
+  batch set is d free (symbols_of_all es) es quiet (λ s h. h) mode kernel (install set.names left (bundle set.names d (symbols_of_all es)))
       (installed set.names d left (symbols_of_all es)),
-  batch set is d free (symbols_of_all es) to_come es quiet (λ s h. h) mode kernel d (agree_itself set.names (InClosure set.names d (symbols_of_all es)) d),
+  batch set is d free (symbols_of_all es) es quiet (λ s h. h) mode kernel d (agree_itself set.names (InClosure set.names d (symbols_of_all es)) d),
 )

@@ -1,5 +1,5 @@
 -- A kernel's attempt at a quiet application, or at a list of them, posts nothing but what it delivers.
-use Rattle.std.proofs.Common.{◌≡◌, refl, sym, ap, ◌∙◌, ℕ, ◌<◌, true, List, [], ◌∷◌, reverse}
+use Rattle.std.proofs.Common.{◌≡◌, refl, sym, ap, ◌∙◌, ℕ, true, List, [], ◌∷◌, reverse}
 use mathlib.Core.List.{reverse_aux, reverse-reverse}
 use Rattle.expr_tree.specs.declared.sym.Sym.{Sym}
 use Rattle.expr_tree.specs.Tree.{Tree}
@@ -62,13 +62,13 @@ module _ (set : Setup) (is : IsNames set.names) (d : Definitions) (free : NoName
         delivers = evaluated_is set kernel c a Delivers quiet.value (in_any_mode set is d free a quiet c one Mode.Item kernel []).outcome;
       }
 
-  module _ (seeds : List Sym) (to_come : (s : Sym) → InClosure set.names d seeds s → s.number < d.module_number) where
+  module _ (seeds : List Sym) where
     in_turn : (es : List Tree) → Quiet set d es → ((s : Sym) → among s (symbols_of_all es) ≡ true → among s seeds ≡ true) → (c : Definitions) → AgreeOn set.names (InClosure set.names d seeds) d c
         → (so_far : List Tree) → DeliversAtOnce (batch_value set (reverse (reverse_aux (alone set d es) so_far))) (applications set kernel es c so_far)
     in_turn [] quiet more c one so_far = record { after = c; delivers = refl }
     in_turn (a ∷ es) quiet more c one so_far =
         let first : (s : Sym) → among s (symbols_of a) ≡ true → among s seeds ≡ true = λ s h. more s (among_left s (symbols_of a) (symbols_of_all es) h) in
-        let gives = in_any_mode set is d free a quiet.0 c (narrowed set is d free seeds to_come a first c one) Mode.Item kernel [] in
+        let gives = in_any_mode set is d free a quiet.0 c (narrowed set is d free seeds a first c one) Mode.Item kernel [] in
         let value : ended_value set.names (by_itself set d a).outcome ≡ quiet.0.value = ap (ended_value set.names) quiet.0.gives in
         let after : Definitions = (eval (in_mode set Mode.Item kernel) c a []).definitions in
         at_once (batch_value set (reverse (reverse_aux (alone set d es) (quiet.0.value ∷ so_far)))) (batch_value set (reverse (reverse_aux (alone set d (a ∷ es)) so_far)))
@@ -76,13 +76,13 @@ module _ (set : Setup) (is : IsNames set.names) (d : Definitions) (free : NoName
         (ap (λ v. batch_value set (reverse (reverse_aux (alone set d es) (v ∷ so_far)))) (sym value))
         (evaluated_is set kernel c a (λ v x. applications set kernel es x (v ∷ so_far)) quiet.0.value gives.outcome)
         (in_turn es quiet.1 (λ s h. more s (among_right s (symbols_of a) (symbols_of_all es) h)) after
-        (still_agree set is d free seeds to_come a quiet.0 first c (eval (in_mode set Mode.Item kernel) c a []) one gives) (quiet.0.value ∷ so_far))
+        (still_agree set is d free seeds a quiet.0 first c (eval (in_mode set Mode.Item kernel) c a []) one gives) (quiet.0.value ∷ so_far))
 
 pub attempt_delivers : AttemptDelivers
 attempt_delivers set is d free kernel left = (
   (λ a quiet. plain set is d free kernel a quiet (install set.names left (bundle set.names d (symbols_of a))) (installed set.names d left (symbols_of a))),
-  (λ es to_come quiet.
+  (λ es quiet.
       at_once (batch_value set (reverse (reverse (alone set d es)))) (batch_value set (alone set d es)) _ _
       (ap (batch_value set) (reverse-reverse (alone set d es))) refl
-      (in_turn set is d free kernel (symbols_of_all es) to_come es quiet (λ s h. h) (install set.names left (bundle set.names d (symbols_of_all es))) (installed set.names d left (symbols_of_all es)) [])),
+      (in_turn set is d free kernel (symbols_of_all es) es quiet (λ s h. h) (install set.names left (bundle set.names d (symbols_of_all es))) (installed set.names d left (symbols_of_all es)) [])),
 )

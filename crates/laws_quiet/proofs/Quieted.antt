@@ -13,7 +13,7 @@ use Rattle.laws_language.proofs.Modes.{mode_independent}
 use Rattle.journal.specs.Closure.{symbols_of, symbols_of_definition, stored_symbols, is_shared, InClosure, seed, followed, table, bundle, install}
 use Rattle.journal.specs.Core.{Setup, in_mode}
 use Rattle.journal.specs.Quiet.{bare, by_itself, IsQuiet}
-use Rattle.laws_closure.specs.Frame.{IsClosed, AgreeOn, Untouched, WentAlike}
+use Rattle.laws_closure.specs.Frame.{IsClosed, AgreeOn, Unchanged, WentAlike}
 use Rattle.laws_closure.proofs.Framed.{framed}
 use Rattle.laws_quiet.specs.Quiet.{NoNameShared, GivesAlone, QuietAnywhere}
 use Rattle.laws_quiet.proofs.Installed.{installed}
@@ -116,7 +116,7 @@ module _ (set : Setup) (is : IsNames set.names) (d : Definitions) (free : NoName
             (agree_on set.names C d (bare set d a) (eval (in_mode set Mode.Item 0) c a events).definitions alone_agrees
             (subst (λ x. AgreeOn set.names C (bare set d a) x) (sym any.definitions)
             (subst (λ x. AgreeOn set.names C x (eval (in_mode set Mode.Item 0) c a []).definitions) quiet.keeps went.after)));
-        untouched = subst (λ x. Untouched set.names C c x) (sym any.definitions) went.untouched.1;
+        unchanged = subst (λ x. Unchanged set.names C c x) (sym any.definitions) (went.unchanged (ap (λ x. x.module_number) quiet.keeps)).1;
       })
 
 pub quiet_anywhere : QuietAnywhere

@@ -5,7 +5,7 @@
 --     QuietAnywhere         a quiet application does so from its bundle on any kernel, and from the master's definitions
 --     BatchAnywhere         a list of quiet applications does so, evaluated in turn
 --     AttemptDelivers       a kernel's attempt at a quiet application, or at a list of them, delivers these values
-use Rattle.std.specs.Prelude.{◌≡◌, ℕ, ◌<◌, List, [], ◌∷◌, map, true, false}
+use Rattle.std.specs.Prelude.{◌≡◌, ℕ, List, [], ◌∷◌, map, true, false}
 use Rattle.expr_tree.specs.declared.sym.Sym.{Sym}
 use Rattle.expr_tree.specs.Tree.{Tree}
 use Rattle.semantics.specs.Names.{Names, IsNames}
@@ -15,23 +15,23 @@ use Rattle.semantics.specs.Play.{Setting, End}
 use Rattle.semantics.specs.Eval.{Event, Outcome, Evaluation, eval}
 use Rattle.journal.specs.Closure.{symbols_of, symbols_of_all, is_row, is_shared, InClosure, bundle, install}
 use Rattle.journal.specs.Core.{Setup, in_mode}
-use Rattle.journal.specs.Entry.{Item}
+use Rattle.journal.specs.declared.item.Item.{Item}
 use Rattle.journal.specs.Follow.{Attempt, attempt, batch_value}
 use Rattle.journal.specs.Quiet.{by_itself, IsQuiet, Quiet, alone}
-use Rattle.laws_closure.specs.Frame.{AgreeOn, Untouched}
+use Rattle.laws_closure.specs.Frame.{AgreeOn, Unchanged}
 
 abbrev pub NoNameShared : Names → Definitions → Type 0
 NoNameShared names d = (s : Sym) → is_row names s ≡ true → is_shared d s ≡ false
 
 -- a value, in as many steps as by itself, with no call; of the definitions c from which it began those on the closure are as they were,
--- and so are those of all other symbols that no Module has made
+-- and so are those of all other symbols
 pub record GivesAlone (set : Setup) (d : Definitions) (a value : Tree) (events : List Event) (c : Definitions) (result : Evaluation) : Type 0 where
   pub outcome : result.outcome ≡ Outcome.Ended (End.Value value)
   pub steps : result.steps ≡ (by_itself set d a).steps
   pub used : result.used ≡ false
   pub no_call : result.rest ≡ events
   pub after : AgreeOn set.names (InClosure set.names d (symbols_of a)) c result.definitions
-  pub untouched : Untouched set.names (InClosure set.names d (symbols_of a)) c result.definitions
+  pub unchanged : Unchanged set.names (InClosure set.names d (symbols_of a)) c result.definitions
 
 -- the definitions that one leaves are those that the next begins from
 abbrev pub results : Setting → Definitions → List Tree → List Outcome
@@ -47,17 +47,13 @@ QuietAnywhere =
     (eval (in_mode set mode kernel) (install set.names left (bundle set.names d (symbols_of a))) a events)
     × GivesAlone set d a quiet.value events d (eval (in_mode set mode kernel) d a events)
 
--- no symbol of the closure has a number that a Module may still take
-abbrev pub NoneToCome : Setup → Definitions → List Tree → Type 0
-NoneToCome set d es = (s : Sym) → InClosure set.names d (symbols_of_all es) s → s.number < d.module_number
-
 abbrev pub as_values : List Tree → List Outcome
 as_values vs = map (λ v. Outcome.Ended (End.Value v)) vs
 
 -- the bundle is that of the whole list. Each gives its value by itself, in the order of the list
 abbrev pub BatchAnywhere : Type 0
 BatchAnywhere =
-    (set : Setup) → IsNames set.names → (d : Definitions) → NoNameShared set.names d → (es : List Tree) → NoneToCome set d es → Quiet set d es
+    (set : Setup) → IsNames set.names → (d : Definitions) → NoNameShared set.names d → (es : List Tree) → Quiet set d es
     → (mode : Mode) (kernel : ℕ) (left : Definitions)
     → (results (in_mode set mode kernel) (install set.names left (bundle set.names d (symbols_of_all es))) es ≡ as_values (alone set d es))
     × (results (in_mode set mode kernel) d es ≡ as_values (alone set d es))
@@ -72,5 +68,5 @@ abbrev pub AttemptDelivers : Type 0
 AttemptDelivers =
     (set : Setup) → IsNames set.names → (d : Definitions) → NoNameShared set.names d → (kernel : ℕ) (left : Definitions)
     → ((a : Tree) (quiet : IsQuiet set d a) → DeliversAtOnce quiet.value (attempt set kernel (Item.Plain a) (install set.names left (bundle set.names d (symbols_of a)))))
-    × ((es : List Tree) → NoneToCome set d es → Quiet set d es
+    × ((es : List Tree) → Quiet set d es
     → DeliversAtOnce (batch_value set (alone set d es)) (attempt set kernel (Item.Batch es) (install set.names left (bundle set.names d (symbols_of_all es)))))

@@ -1,5 +1,6 @@
 //! Laws of quiet applications: one gives the same value from its bundle, on any kernel, as from the master's definitions. They join
-//! the closed sets of `laws_closure` with the attempts of `journal`. Each function here has no code: its contract is a law.
+//! the closed sets of `laws_closure` with the attempts of `journal`. No name of the built-in table is shared. Each function here
+//! has no code: its contract is a law.
 #![tactic(auto)]
 
 ghost use Rattle.laws_quiet.specs.Quiet.{AttemptDelivers, BatchAnywhere, QuietAnywhere};

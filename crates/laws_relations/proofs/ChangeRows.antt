@@ -16,7 +16,7 @@ use Rattle.laws_relations.proofs.Relation.{int, str, sym, node, items-like, is_c
 use Rattle.laws_relations.proofs.FirstSteps.{left_side-both}
 use Rattle.laws_relations.proofs.Kin.{Kin, LikeTree, LikeTrees, LikeSymbols, LikeDefined}
 use Rattle.laws_relations.proofs.Simulation.{Both, ask, done, look, put, check, moded}
-use Rattle.laws_relations.proofs.Programs.{name-both}
+use Rattle.laws_relations.proofs.Programs.{name-both, by_item}
 use Rattle.laws_relations.proofs.AssignRows.{inner-like, symbols_at-like, target, LikeForm, to_tag, Targets, places-like, asked_symbols-like, refusal-like, remove-like, has_left-like, attached-like}
 
 module _ (K : Kin) where
@@ -61,13 +61,13 @@ module _ (K : Kin) where
       go false = other
 
   unless_item-both : {b c : Bool} {p q : Prog} → b ≡ c → Both K p q → Both K (unless_item names b p) (unless_item names c q)
-  unless_item-both {p = p} {q = q} e both = by_flag (λ b. unless_item names b p) (λ b. unless_item names b q) e moded both
+  unless_item-both {p = p} {q = q} e both = by_flag (λ b. unless_item names b p) (λ b. unless_item names b q) e (moded (λ outward mode kernel. by_item K mode (name-both K Builtin.Failed) both)) both
 
   noting-both : {b c : Bool} {p q : Prog} → b ≡ c → Both K p q → Both K (noting b p) (noting c q)
-  noting-both {p = p} {q = q} e both = by_flag (λ b. noting b p) (λ b. noting b q) e moded both
+  noting-both {p = p} {q = q} e both = by_flag (λ b. noting b p) (λ b. noting b q) e (moded (λ outward mode kernel. both)) both
 
   unless_shared_symbol-both : {b c : Bool} {p q : Prog} → b ≡ c → Both K p q → Both K (unless_shared_symbol names b p) (unless_shared_symbol names c q)
-  unless_shared_symbol-both {p = p} {q = q} e both = by_flag (λ b. unless_shared_symbol names b p) (λ b. unless_shared_symbol names b q) e moded both
+  unless_shared_symbol-both {p = p} {q = q} e both = by_flag (λ b. unless_shared_symbol names b p) (λ b. unless_shared_symbol names b q) e (moded (λ outward mode kernel. name-both K Builtin.Failed)) both
 
   failed-both : Both K (failed names) (failed names)
   failed-both = name-both K Builtin.Failed

@@ -72,7 +72,7 @@ module _ (K : Kin) where
 
   -- ---- iterators
 
-  data LikeValues : Values → Values → Type 0 where
+  pub data LikeValues : Values → Values → Type 0 where
     from : {a d : ℤ} {n : ℕ} → LikeValues (From a d n) (From a d n)
     each : {es fs : List Tree} → LikeTrees K es fs → LikeValues (Each es) (Each fs)
 
@@ -94,9 +94,9 @@ module _ (K : Kin) where
       branch (Both K) (is_call-like K.Symbols names K.faithful Builtin.List (node h es)) (next _ _ (each (listed-like K.Symbols es))) stay
 
   pub unless_shared-both : {s t : Sym} {p q : Prog} → K.Symbols s t → Both K p q → Both K (unless_shared names s p) (unless_shared names t q)
-  unless_shared-both s both = look s (λ x y defined shared. same_case (Both K) shared both (λ kind. moded))
+  unless_shared-both s both = look s (λ x y defined shared. same_case (Both K) shared both (λ kind. moded (λ outward mode kernel. name-both K Builtin.Failed)))
 
-  abbrev NextParts : (Option Sym → Values → List Tree → Prog) → (Option Sym → Values → List Tree → Prog) → Type 0
+  abbrev pub NextParts : (Option Sym → Values → List Tree → Prog) → (Option Sym → Values → List Tree → Prog) → Type 0
   NextParts k l = (i j : Option Sym) (vs us : Values) (ps qs : List Tree) → Opt K.Symbols i j → LikeValues vs us → LikeTrees K ps qs → Both K (k i vs ps) (l j us qs)
 
   iterator_parts-both : {es fs : List Tree} (k l : Option Sym → Values → List Tree → Prog) {p q : Prog} → LikeTrees K es fs → NextParts k l → Both K p q
@@ -111,7 +111,7 @@ module _ (K : Kin) where
       branch (Both K) {a = int_eq by (pos 0)} refl stay (next _ _ _ _ _ _ (some i) from (all_cons (sym i) (all_cons int (all_cons int (all_cons int all_nil)))))) stay) stay) stay)
   iterator_parts-both k l _ next stay = stay
 
-  iterator-both : {e f : Tree} (k l : Option Sym → Values → List Tree → Prog) {p q : Prog} → LikeTree K e f → NextParts k l → Both K p q → Both K (iterator names e k p) (iterator names f l q)
+  pub iterator-both : {e f : Tree} (k l : Option Sym → Values → List Tree → Prog) {p q : Prog} → LikeTree K e f → NextParts k l → Both K p q → Both K (iterator names e k p) (iterator names f l q)
   iterator-both k l e next stay = branch (Both K) (is_call-like K.Symbols names K.faithful Builtin.List e) (iterator_parts-both k l (items-like K.Symbols e) next stay) stay
 
   locals-like : {i j : Option Sym} {v x : Tree} → Opt K.Symbols i j → LikeTree K v x → LikeLocals K (locals i v) (locals j x)
@@ -144,7 +144,7 @@ module _ (K : Kin) where
 
   -- ---- turn forms
 
-  applied-both : {f g : Tree} {es fs : List Tree} (k l : Tree → Prog) → LikeTree K f g → LikeTrees K es fs → Next K k l → Both K (applied f es k) (applied g fs l)
+  pub applied-both : {f g : Tree} {es fs : List Tree} (k l : Tree → Prog) → LikeTree K f g → LikeTrees K es fs → Next K k l → Both K (applied f es k) (applied g fs l)
   applied-both k l f es next = check (call-like K.Symbols f es) (turn (ask (call-like K.Symbols f es) next))
 
   nested-both : (n : ℕ) {f g x y : Tree} → LikeTree K f g → LikeTree K x y → Both K (nested f n x Done) (nested g n y Done)

@@ -5,7 +5,8 @@ use Rattle.expr_tree.specs.declared.sym.Sym.{Sym}
 use Rattle.expr_tree.specs.Tree.{Tree}
 use Rattle.semantics.specs.Names.{Names}
 use Rattle.semantics.specs.Definitions.{Definition}
-use Rattle.semantics.specs.Program.{Local}
+use Rattle.semantics.specs.Program.{Request, Access, Count, Print, Outside, Local}
+use Rattle.semantics.specs.Sections.{printed}
 use Rattle.semantics.specs.Rule.{Rule}
 use Rattle.semantics.specs.Scoping.{renamed}
 use Rattle.semantics.specs.Play.{State}
@@ -22,6 +23,10 @@ pub record Kin : Type 1 where
   pub names : Names
   pub faithful : Faithful Symbols names
   pub bases : (s t : Sym) → Symbols s t → s.base ≡ t.base
+  -- holds where programs are followed also through a use of the mode
+  pub Outward : Type 0
+  -- what prints of related values has texts so related
+  pub Texts : List ℕ → List ℕ → Type 0
   -- related numbers make related symbols
   pub renames : (m n : ℕ) → Numbers m n → (s t : Sym) → Symbols s t → Symbols (renamed m s) (renamed n t)
 
@@ -43,3 +48,13 @@ module _ (K : Kin) where
 
   abbrev pub LikeRules : List Rule → List Rule → Type 0
   LikeRules = All (LikeRule K.Symbols)
+
+  -- what shows values, so that what is printed of related ones is related
+  abbrev pub ShowsAlike : (Tree → List ℕ) → Type 0
+  ShowsAlike texts = (es fs : List Tree) → LikeTrees es fs → K.Texts (printed texts es) (printed texts fs)
+
+  pub data LikeRequest : Request → Request → Type 0 where
+    accesses : {e f : Tree} → LikeTree e f → LikeRequest (Access e) (Access f)
+    counts : LikeRequest Count Count
+    prints : {t u : List ℕ} → K.Texts t u → LikeRequest (Print t) (Print u)
+    forms : {e f : Tree} → LikeTree e f → LikeRequest (Outside e) (Outside f)

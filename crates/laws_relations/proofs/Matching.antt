@@ -6,7 +6,7 @@ use Rattle.expr_tree.specs.Tree.{Tree, normal, Trees}
 use Rattle.semantics.specs.declared.builtin.Builtin.{Builtin}
 use Rattle.semantics.specs.Names.{Names, is_name}
 use Rattle.expr_tree.specs.Substitution.{Binding}
-use Rattle.semantics.specs.Match.{Guard, Test, Cond, Found, nothing_found, Matching, Taken, runs, choices, choices_up_to, ways, is_single, first_is_single, second_is_single, wrapped, same_run, bind, guarded, when, have_head, is_one, is_some_run, Kind, blank, sequence, null_sequence, pattern, test, condition, alternatives, hold, verbatim, other, kind, Matcher, Element, literal, match_items, match_normal, match_any, match_named, construct, is_construct, how_of, matcher, matchers, matches, asked, heads, heads_in, guard_expression}
+use Rattle.semantics.specs.Match.{Guard, Test, Cond, Found, nothing_found, Matching, Taken, runs, choices, choices_up_to, ways, first_is_symbol, is_single, first_is_single, second_is_single, wrapped, same_run, bind, guarded, when, have_head, is_one, is_some_run, Kind, blank, sequence, null_sequence, pattern, test, condition, alternatives, hold, verbatim, other, kind, Matcher, Element, literal, match_items, match_normal, match_any, match_named, construct, is_construct, how_of, matcher, matchers, matches, asked, heads, heads_in, guard_expression}
 use Rattle.laws_relations.proofs.Relate.{All, all_nil, all_cons, branch, case, append2, map2, joined2, length2}
 use Rattle.laws_relations.proofs.Relation.{Like, int, str, sym, node, Likes, ends, mores, LikeList, listed-like, call-like, count-like, head-like, Faithful, same-like, is_name-like, LikeBound}
 use Rattle.laws_relations.proofs.PutInPlace.{value_of-like, put_in_place-like}
@@ -59,12 +59,22 @@ module _ (S : Sym → Sym → Type 0) where
             → ◌≡◌ {A = Kind} (elim (is_name names row h') [ true ↦ k | false ↦ m ]) (elim (is_name names row g) [ true ↦ k | false ↦ n ])
         step row k e = branch (◌≡◌ {A = Kind}) (is_name-like S names F row h) refl e
 
+    first_is_symbol-like : {ps qs : Trees} → Likes S ps qs → first_is_symbol ps ≡ first_is_symbol qs
+    first_is_symbol-like ends = refl
+    first_is_symbol-like (mores int ps) = refl
+    first_is_symbol-like (mores str ps) = refl
+    first_is_symbol-like (mores (sym s) ps) = refl
+    first_is_symbol-like (mores (node h es) ps) = refl
+
+    is_construct-like : {h g : Tree} {ps qs : Trees} → Like S h g → Likes S ps qs → is_construct names h ps ≡ is_construct names g qs
+    is_construct-like h ps = rw (kind-like h, count-like S ps, first_is_symbol-like ps) refl
+
     mutual
       is_single-like : {p q : Tree} → Like S p q → is_single names p ≡ is_single names q
       is_single-like int = refl
       is_single-like str = refl
       is_single-like (sym s) = refl
-      is_single-like (node h ps) = rw (kind-like h, count-like S ps, first_is_single-like ps, second_is_single-like ps) refl
+      is_single-like (node h ps) = rw (is_construct-like h ps, kind-like h, first_is_single-like ps, second_is_single-like ps) refl
 
       first_is_single-like : {ps qs : Trees} → Likes S ps qs → first_is_single names ps ≡ first_is_single names qs
       first_is_single-like ends = refl
@@ -218,18 +228,18 @@ module _ (S : Sym → Sym → Type 0) where
     unfolding matches
     matches-like A B alike p e = matcher-like A B alike p _ _ (all_cons e all_nil) nothing_found nothing_found (record { binding = all_nil; guards = all_nil })
 
-    asked-like : {h g : Tree} → Like S h g → All S (asked names h) (asked names g)
-    asked-like int = all_nil
-    asked-like str = all_nil
-    asked-like (sym s) = branch (All S) (ap is_construct (kind-like (sym s))) all_nil (all_cons s all_nil)
-    asked-like (node h es) = all_nil
+    asked-like : {h g : Tree} {ps qs : Trees} → Like S h g → Likes S ps qs → All S (asked names h ps) (asked names g qs)
+    asked-like int ps = all_nil
+    asked-like str ps = all_nil
+    asked-like (sym s) ps = branch (All S) (is_construct-like (sym s) ps) all_nil (all_cons s all_nil)
+    asked-like (node h es) ps = all_nil
 
     mutual
       pub heads-like : {p q : Tree} → Like S p q → All S (heads names p) (heads names q)
       heads-like int = all_nil
       heads-like str = all_nil
       heads-like (sym s) = all_nil
-      heads-like (node h ps) = append2 (asked-like h) (append2 (heads-like h) (heads_in-like ps))
+      heads-like (node h ps) = append2 (asked-like h ps) (append2 (heads-like h) (heads_in-like ps))
 
       pub heads_in-like : {ps qs : Trees} → Likes S ps qs → All S (heads_in names ps) (heads_in names qs)
       heads_in-like ends = all_nil

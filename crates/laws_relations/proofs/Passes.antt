@@ -5,15 +5,15 @@ use Rattle.expr_tree.specs.declared.sym.Sym.{Sym}
 use Rattle.expr_tree.specs.Tree.{Tree}
 use Rattle.semantics.specs.declared.builtin.Builtin.{Builtin}
 use Rattle.semantics.specs.Names.{is_name, role_of}
-use Rattle.semantics.specs.Program.{Prog, Done, Seen}
+use Rattle.semantics.specs.Program.{Prog, Done, Outer, Access, Seen}
 use Rattle.semantics.specs.Definitions.{Attributes, Share, Variable, Function, has}
-use Rattle.semantics.specs.Sections.{accessed, access_or, unless_access, changes_rule, changes_value}
+use Rattle.semantics.specs.Sections.{accessed, unless_identical, access_or, unless_access, changes_rule, changes_value}
 use Rattle.semantics.specs.Pass.{marked, symbol_rules, up_rules, row_or_stay, built_in, down_rules, last_steps, left_standing, later_steps, symbol_row, own_value, symbol_pass, pass}
 use Rattle.laws_relations.proofs.Relate.{Opt, none, some, all_nil, all_cons, branch, case}
-use Rattle.laws_relations.proofs.Relation.{int, str, sym, node, call-like, listed-like, symbol-like, is_name-like, make-like, strip-like, has_wrapper-like}
-use Rattle.laws_relations.proofs.Kin.{Kin, LikeTree, LikeTrees, LikeDefined}
-use Rattle.laws_relations.proofs.Simulation.{Both, Next, done, look, moded}
-use Rattle.laws_relations.proofs.Programs.{by_name-both, try_rules-both}
+use Rattle.laws_relations.proofs.Relation.{int, str, sym, node, call-like, listed-like, symbol-like, same-like, is_name-like, make-like, strip-like, has_wrapper-like}
+use Rattle.laws_relations.proofs.Kin.{Kin, LikeTree, LikeTrees, LikeDefined, accesses, counts}
+use Rattle.laws_relations.proofs.Simulation.{Both, Next, done, look, outer, moded}
+use Rattle.laws_relations.proofs.Programs.{by_name-both, by_item, try_rules-both}
 use Rattle.laws_relations.proofs.FirstSteps.{first_steps-both, flattened-like, threaded-like, sorted-like, check_all-both}
 use Rattle.laws_relations.proofs.ScopeRows.{apply_function-both}
 use Rattle.laws_relations.proofs.Rows.{row-both}
@@ -29,14 +29,18 @@ module _ (K : Kin) where
     where
       go : (o : Option Share) → Both K (marked o p) (marked o q)
       go None = both
-      go (Some kind) = moded
+      go (Some kind) = moded (λ outward mode kernel. both)
 
-  access_or-both : (a b : Option Share) (kind : Share) (e f : Tree) (r s : Prog) {p q : Prog} → a ≡ b → Both K p q → Both K (access_or a kind e r p) (access_or b kind f s q)
-  access_or-both a b kind e f r s {p = p} {q = q} same both = subst (λ o. Both K (access_or a kind e r p) (access_or o kind f s q)) same (go a)
+  -- an access is sent as it stands; a reply identical to it is no result
+  sent-both : {e f : Tree} {r s : Prog} → K.Outward → LikeTree K e f → Both K r s → Both K (Outer (Access e) (unless_identical e r)) (Outer (Access f) (unless_identical f s))
+  sent-both outward e stay = outer outward (accesses e) (λ v x one. branch (Both K) (same-like K.Symbols names K.faithful one e) stay (done one))
+
+  access_or-both : (a b : Option Share) (kind : Share) {e f : Tree} {r s p q : Prog} → a ≡ b → LikeTree K e f → Both K r s → Both K p q → Both K (access_or a kind e r p) (access_or b kind f s q)
+  access_or-both a b kind {e} {f} {r} {s} {p} {q} is one stay both = subst (λ o. Both K (access_or a kind e r p) (access_or o kind f s q)) is (go a)
     where
       go : (o : Option Share) → Both K (access_or o kind e r p) (access_or o kind f s q)
       go None = both
-      go (Some k) = branch (Both K) refl moded both
+      go (Some k) = branch (Both K) refl (moded (λ outward mode kernel. by_item K mode (sent-both outward one stay) both)) both
 
   abbrev Uses : Sym × Share → Sym × Share → Type 0
   Uses a b = K.Symbols a.0 b.0 × (a.1 ≡ b.1)
@@ -57,12 +61,12 @@ module _ (K : Kin) where
   accessed-like h (all_cons (node (sym f) as') es) = branch (Opt Uses) (changes-like h).0 (some (f, refl)) none
   accessed-like h _ = none
 
-  unless_access-both : (e f : Tree) (r s : Prog) {h g : Tree} {es fs : List Tree} {p q : Prog} → LikeTree K h g → LikeTrees K es fs → Both K p q
+  unless_access-both : {e f h g : Tree} {es fs : List Tree} {r s p q : Prog} → LikeTree K h g → LikeTrees K es fs → LikeTree K e f → Both K r s → Both K p q
       → Both K (unless_access names h es e r p) (unless_access names g fs f s q)
-  unless_access-both e f r s {p = p} {q = q} h l both =
+  unless_access-both {e = e} {f = f} {r = r} {s = s} {p = p} {q = q} h l one stay both =
       case (Both K) (accessed-like h l) both
       (λ a b uses. look uses.0 (λ x y defined shared.
-      subst (λ kind. Both K (access_or x.shared a.1 e r p) (access_or y.shared kind f s q)) uses.1 (access_or-both x.shared y.shared a.1 e f r s shared both)))
+      subst (λ kind. Both K (access_or x.shared a.1 e r p) (access_or y.shared kind f s q)) uses.1 (access_or-both x.shared y.shared a.1 shared one stay both)))
 
   -- ---- rules and rows
 
@@ -77,18 +81,19 @@ module _ (K : Kin) where
   up_rules-both all_nil e both = both
   up_rules-both (all_cons one rest) e both = symbol_rules-both (symbol-like K.Symbols one) e (up_rules-both rest e both)
 
-  row_or_stay-both : (o : Option Builtin) (e f : Tree) {s t : Sym} {es fs : List Tree} {p q : Prog} → K.Symbols s t → LikeTrees K es fs → Both K p q → Both K (row_or_stay names o s es e p) (row_or_stay names o t fs f q)
-  row_or_stay-both None e f s l both = both
-  row_or_stay-both (Some r) e f s l both = unless_access-both e f _ _ (sym s) l (row-both K r both l)
+  row_or_stay-both : (o : Option Builtin) {e f : Tree} {s t : Sym} {es fs : List Tree} {p q : Prog} → K.Symbols s t → LikeTrees K es fs → LikeTree K e f → Both K p q
+      → Both K (row_or_stay names o s es e p) (row_or_stay names o t fs f q)
+  row_or_stay-both None s l e both = both
+  row_or_stay-both (Some r) s l e both = unless_access-both (sym s) l e both (row-both K r both l)
 
-  built_in-both : {s t : Sym} {es fs : List Tree} (e f : Tree) {p q : Prog} → K.Symbols s t → LikeTrees K es fs → Both K p q → Both K (built_in names s es e p) (built_in names t fs f q)
-  built_in-both {s = s} {t = t} {es = es} {fs = fs} e f {p = p} {q = q} one l both =
-      subst (λ o. Both K (built_in names s es e p) (row_or_stay names o t fs f q)) (K.faithful.roles s t one) (row_or_stay-both (role_of names s) e f one l both)
+  built_in-both : {s t : Sym} {es fs : List Tree} {e f : Tree} {p q : Prog} → K.Symbols s t → LikeTrees K es fs → LikeTree K e f → Both K p q → Both K (built_in names s es e p) (built_in names t fs f q)
+  built_in-both {s = s} {t = t} {es = es} {fs = fs} {e = e} {f = f} {p = p} {q = q} one l same both =
+      subst (λ o. Both K (built_in names s es e p) (row_or_stay names o t fs f q)) (K.faithful.roles s t one) (row_or_stay-both (role_of names s) one l same both)
 
   down_rules-both : {h g : Tree} {es fs : List Tree} {e f : Tree} {p q : Prog} → LikeTree K h g → LikeTrees K es fs → LikeTree K e f → Both K p q → Both K (down_rules names h es e p) (down_rules names g fs f q)
   down_rules-both (sym s) l e both =
-      look s (λ a b defined shared. access_or-both a.shared b.shared Function _ _ _ _ shared (marked-both a.shared b.shared shared
-      (try_rules-both K Done Done defined.downs e gives_itself (built_in-both _ _ s l both))))
+      look s (λ a b defined shared. access_or-both a.shared b.shared Function shared e both (marked-both a.shared b.shared shared
+      (try_rules-both K Done Done defined.downs e gives_itself (built_in-both s l e both))))
   down_rules-both (node h ps) l e both = by_name-both K Builtin.Function h (apply_function-both K both (listed-like K.Symbols ps) l) both
   down_rules-both int l e both = both
   down_rules-both str l e both = both
@@ -109,14 +114,16 @@ module _ (K : Kin) where
       (λ x y each. check_all-both K each (done (make-like K.Symbols names K.faithful Builtin.List each)))
 
   symbol_row-both : {s t : Sym} → K.Symbols s t → Both K (symbol_row names s) (symbol_row names t)
-  symbol_row-both s = by_name-both K Builtin.KernelID (sym s) moded (by_name-both K Builtin.KernelCount (sym s) moded (done (sym s)))
+  symbol_row-both s =
+      by_name-both K Builtin.KernelID (sym s) (moded (λ outward mode kernel. done int))
+      (by_name-both K Builtin.KernelCount (sym s) (moded (λ outward mode kernel. outer outward counts gives_itself)) (done (sym s)))
 
   own_value-both : {s t : Sym} (x y : Seen) → K.Symbols s t → LikeDefined K x.definition y.definition → Both K (own_value names s x) (own_value names t y)
   own_value-both x y s defined = case (Both K) defined.own (symbol_row-both s) (λ v u same. done same)
 
   symbol_pass-both : {s t : Sym} → K.Symbols s t → Both K (symbol_pass names s) (symbol_pass names t)
   symbol_pass-both s =
-      look s (λ x y defined shared. access_or-both x.shared y.shared Variable _ _ _ _ shared (marked-both x.shared y.shared shared (own_value-both x y s defined)))
+      look s (λ x y defined shared. access_or-both x.shared y.shared Variable shared (sym s) (done (sym s)) (marked-both x.shared y.shared shared (own_value-both x y s defined)))
 
   pub pass-both : (e f : Tree) → LikeTree K e f → Both K (pass names e) (pass names f)
   pass-both _ _ int = done int

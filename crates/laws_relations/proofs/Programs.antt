@@ -1,11 +1,11 @@
--- What several rows use: results, choices by a name, trials of rules.
+-- What several rows use: results, choices by a name or by the mode, trials of rules.
 use Rattle.std.proofs.Common.{◌≡◌, refl, true, false, List, []}
 use Rattle.expr_tree.specs.declared.sym.Sym.{Sym}
 use Rattle.expr_tree.specs.Tree.{Tree}
 use Rattle.expr_tree.specs.Substitution.{Binding}
 use Rattle.semantics.specs.declared.builtin.Builtin.{Builtin}
 use Rattle.semantics.specs.Names.{name, is_name, make}
-use Rattle.semantics.specs.Program.{Prog, Done, look_all}
+use Rattle.semantics.specs.Program.{Prog, Done, Mode, Cell, Item, Service, look_all}
 use Rattle.semantics.specs.Rule.{Rule, condition_in, result_in, condition_of, result_of}
 use Rattle.semantics.specs.Match.{Guard, Cond, Found, Matching}
 use Rattle.semantics.specs.Definitions.{Definition}
@@ -29,6 +29,21 @@ module _ (K : Kin) where
   pub by_name-both : (row : Builtin) {v x : Tree} {p q p' q' : Prog} → LikeTree K v x → Both K p p' → Both K q q'
       → Both K (elim (is_name names row v) [ true ↦ p | false ↦ q ]) (elim (is_name names row x) [ true ↦ p' | false ↦ q' ])
   by_name-both row same a b = branch (Both K) (is_name-like K.Symbols names K.faithful row same) a b
+
+  pub by_cell : (mode : Mode) {p q p' q' : Prog} → Both K p p' → Both K q q' → Both K (elim mode [ Cell ↦ p | _ ↦ q ]) (elim mode [ Cell ↦ p' | _ ↦ q' ])
+  by_cell Cell one other = one
+  by_cell Item one other = other
+  by_cell Service one other = other
+
+  pub by_item : (mode : Mode) {p q p' q' : Prog} → Both K p p' → Both K q q' → Both K (elim mode [ Item ↦ p | _ ↦ q ]) (elim mode [ Item ↦ p' | _ ↦ q' ])
+  by_item Cell one other = other
+  by_item Item one other = one
+  by_item Service one other = other
+
+  pub by_service : (mode : Mode) {p q p' q' : Prog} → Both K p p' → Both K q q' → Both K (elim mode [ Service ↦ p | _ ↦ q ]) (elim mode [ Service ↦ p' | _ ↦ q' ])
+  by_service Cell one other = other
+  by_service Item one other = other
+  by_service Service one other = one
 
   -- ---- trials of rules
 

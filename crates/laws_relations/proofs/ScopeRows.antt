@@ -13,6 +13,7 @@ use Rattle.laws_relations.proofs.Relation.{int, str, sym, node, Likes, ends, mor
 use Rattle.laws_relations.proofs.PutInPlace.{among-like, as_one-like, put_in_place-like}
 use Rattle.laws_relations.proofs.Kin.{Kin, LikeTree, LikeTrees, LikeSymbols, LikeLocals}
 use Rattle.laws_relations.proofs.Simulation.{Both, ask, within, done, look, put, fresh, moded}
+use Rattle.laws_relations.proofs.Programs.{name-both}
 
 module _ (K : Kin) where
   open K use {names}
@@ -91,7 +92,7 @@ module _ (K : Kin) where
 
   unless_any_shared-both : {ss ts : List Sym} {p q : Prog} → LikeSymbols K ss ts → Both K p q → Both K (unless_any_shared names ss p) (unless_any_shared names ts q)
   unless_any_shared-both all_nil both = both
-  unless_any_shared-both (all_cons s ss) both = look s (λ x y defined shared. same_case (Both K) shared (unless_any_shared-both ss both) (λ kind. moded))
+  unless_any_shared-both (all_cons s ss) both = look s (λ x y defined shared. same_case (Both K) shared (unless_any_shared-both ss both) (λ kind. moded (λ outward mode kernel. name-both K Builtin.Failed)))
 
   pub block_form-both : NextForm (block_form names) (block_form names)
   block_form-both ls ms e f locals body =

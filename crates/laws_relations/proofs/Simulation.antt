@@ -1,5 +1,6 @@
 -- Two evaluations of related expressions from related states go alike: one induction, for what an instance owes, the record `Related`.
--- It is for evaluations that end with `used` false: so no program owes anything for what it does in a mode, for its calls or its sections.
+-- The induction is for evaluations that end with `used` false: there a program owes nothing for what it does in a mode, for its calls or its
+-- sections. Programs are told beyond that all the same, where an instance asks for it (`Outward`).
 -- And it is for evaluations whose module number stays below a bound: from there on the second may run out of numbers.
 use Rattle.std.proofs.Common.{◌≡◌, refl, ap, subst, ℕ, zero, suc, ◌+◌, Bool, true, false, ltb, List, Option, Some, None}
 use Rattle.std.specs.Prelude.{◌==◌}
@@ -8,12 +9,12 @@ use Rattle.expr_tree.specs.declared.limits.Stop.{Stop}
 use Rattle.expr_tree.specs.Tree.{Tree}
 use Rattle.expr_tree.specs.Order.{same}
 use Rattle.semantics.specs.Definitions.{Definition}
-use Rattle.semantics.specs.Program.{Prog, Done, Stops, Quits, Throws, Ask, Catches, Within, Look, Put, Fresh, Turn, Check, Moded, Local, Mode, Seen}
+use Rattle.semantics.specs.Program.{Prog, Done, Stops, Quits, Throws, Ask, Catches, Within, Section, Open, Look, Put, Fresh, Turn, Check, Outer, Moded, Shown, Local, Mode, Request, Seen}
 use Rattle.semantics.specs.Pass.{pass}
 use Rattle.semantics.specs.Play.{Setting, State, End, Value, Stopped, Throwing, Thrown, Quit, Play, Over, Evaluator, ending, on_value, catching, leaving_locals, too_large, with_step, with_locals, without_locals, unless_stopped, stepped, settled, if_number_left, now_used, run, changed, judged, passed, passes, eval_at, seen, written, with_definitions, last_number, after_number}
 use Rattle.laws_language.proofs.Modes.{Used, ended, Sticky, StickyEnd, ending-sticks, on_value-sticks, catching-sticks, run-sticks, passed-sticks, passes-sticks, eval_at-sticks}
 use Rattle.laws_relations.proofs.Beyond.{Past, Beyond, Far, FarEnd, back-past, ending-far, on_value-far, catching-far, run-far, passed-far, passes-far, eval_at-far}
-use Rattle.laws_relations.proofs.Kin.{Kin, LikeTree, LikeTrees, LikeLocals, LikeDefined}
+use Rattle.laws_relations.proofs.Kin.{Kin, LikeTree, LikeTrees, LikeSymbols, LikeLocals, LikeDefined, ShowsAlike, LikeRequest}
 
 module _ (K : Kin) where
   open K use {States, Symbols, Numbers, bound, most_steps}
@@ -32,7 +33,12 @@ module _ (K : Kin) where
     fresh : {k l : ℕ → Prog} → ((m n : ℕ) → Numbers m n → Both (k m) (l n)) → Both (Fresh k) (Fresh l)
     turn : {p q : Prog} → Both p q → Both (Turn p) (Turn q)
     check : {e f : Tree} {p q : Prog} → LikeTree K e f → Both p q → Both (Check e p) (Check f q)
-    moded : {k l : Mode → ℕ → Prog} → Both (Moded k) (Moded l)
+    moded : {k l : Mode → ℕ → Prog} → (K.Outward → (mode : Mode) (kernel : ℕ) → Both (k mode kernel) (l mode kernel)) → Both (Moded k) (Moded l)
+    section : {ls ms : List Sym} {e f : Tree} {k l : Tree → Prog} → K.Outward → LikeSymbols K ls ms → LikeTree K e f → ((v x : Tree) → LikeTree K v x → Both (k v) (l x))
+        → Both (Section ls e k) (Section ms f l)
+    asks_open : {k l : Option (List Sym) → Prog} → K.Outward → ((o : Option (List Sym)) → Both (k o) (l o)) → Both (Open k) (Open l)
+    outer : {c d : Request} {k l : Tree → Prog} → K.Outward → LikeRequest K c d → ((v x : Tree) → LikeTree K v x → Both (k v) (l x)) → Both (Outer c k) (Outer d l)
+    shown : {k l : (Tree → List ℕ) → Prog} → K.Outward → ((texts : Tree → List ℕ) → ShowsAlike K texts → Both (k texts) (l texts)) → Both (Shown k) (Shown l)
 
   -- what goes on with related values
   abbrev pub Next : (Tree → Prog) → (Tree → Prog) → Type 0
@@ -68,6 +74,7 @@ module _ (K : Kin) where
     pub sames : (e f v x : Tree) → LikeTree K e f → LikeTree K v x → same v e ≡ same x f
     pub steps : (s t : State) → States s t → s.steps ≡ t.steps
     pub limited : set.limits.steps ≡ most_steps
+    pub quietly : K.Outward → ⊥
     pub step : (s t : State) → States s t → ltb s.steps set.limits.steps ≡ true → States (record s { steps = s.steps + 1 }) (record t { steps = t.steps + 1 })
     pub looks : (s t : State) (a b : Sym) → States s t → Symbols a b
         → LikeDefined K (seen set.names s.definitions a).definition (seen set.names t.definitions b).definition × ((seen set.names s.definitions a).shared ≡ (seen set.names t.definitions b).shared)
@@ -177,7 +184,11 @@ module _ (K : Kin) where
         with_step-alike s t (λ s'. run set ev p s') (λ t'. run set ew q t') states (λ s' t' states'. run-alike ev ew sticky far follow one s' t' states')
     run-alike ev ew sticky far follow (check {e = e} {f = f} {p = p} {q = q} same one) s t states =
         unless-alike _ _ s t (λ s'. run set ev p s') (λ t'. run set ew q t') (R.sizes e f same) states (λ s' t' states'. run-alike ev ew sticky far follow one s' t' states')
-    run-alike ev ew sticky far follow (moded {k = k}) s t states = used (run-sticks set ev sticky (k set.mode set.kernel) (now_used s) refl)
+    run-alike ev ew sticky far follow (moded {k = k} next) s t states = used (run-sticks set ev sticky (k set.mode set.kernel) (now_used s) refl)
+    run-alike ev ew sticky far follow (section outward locks one next) s t states = absurd (R.quietly outward)
+    run-alike ev ew sticky far follow (asks_open outward next) s t states = absurd (R.quietly outward)
+    run-alike ev ew sticky far follow (outer outward request next) s t states = absurd (R.quietly outward)
+    run-alike ev ew sticky far follow (shown outward next) s t states = absurd (R.quietly outward)
 
     changed-alike : (n : ℕ) (j k : Tree → State → Play) → Onward j k → Onward (changed set n j) (changed set n k)
     changed-alike zero j k next v x s t one states = quiet stopped states

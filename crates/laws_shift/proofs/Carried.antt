@@ -1,5 +1,5 @@
 -- The law of shifted names and the frame law together.
-use Rattle.std.proofs.Common.{◌≡◌, refl, sym, ap, subst, ◌∙◌, ℕ, ◌+◌, ◌*◌, ◌<◌, true, false, List, [], ◌∷◌, ◌++◌, Option, Some, None, le_refl, lt-ltb}
+use Rattle.std.proofs.Common.{◌≡◌, refl, sym, ap, subst, ◌∙◌, ℕ, ◌+◌, ◌<◌, true, false, List, [], ◌∷◌, ◌++◌, Option, Some, None, le_refl, lt-ltb}
 use Rattle.std.specs.Prelude.{◌&&◌, ◌||◌, is_some}
 use Rattle.expr_tree.proofs.Same.{symbol_eq-Decides}
 use Rattle.expr_tree.specs.declared.sym.Sym.{Sym}
@@ -103,7 +103,7 @@ module _ (set : Setting) (C : Sym → Type 0) (by : ℕ) (d c : Definitions) (cl
         same = λ s s_in free. definition-same s s_in (unshared s free) ∙ agree.same s s_in (unshared s free);
       }
 
-  pub carried : IsNames set.names → (e : Tree) (events : List Event) → StandsIn C e → d.module_number + by + (set.limits.recursion * set.limits.steps + set.limits.recursion) < last_number
+  pub carried : IsNames set.names → (e : Tree) (events : List Event) → StandsIn C e → (eval set d e events).definitions.module_number + by < last_number
       → (eval set d e events).used ≡ false → SameButForNames from by events (eval set d e events) (eval set c e events)
   carried is e events stands room free =
       let plain : below from e ≡ true = tree-below from e (λ s x. small s (stands s x)) in
@@ -117,6 +117,7 @@ module _ (set : Setting) (C : Sym → Type 0) (by : ℕ) (d c : Definitions) (cl
         outcome = ends;
         same_value = λ v known is_value. ends ∙ (ap (shift_outcome from by) is_value ∙ ap (λ w. Ended (Value w)) (tree-stays from by v known));
         steps = sym went.steps ∙ ap (λ r. r.steps) goes;
+        number = sym went.after.number ∙ ap (λ r. r.definitions.module_number) goes;
         used = sym went.used ∙ unused;
         no_call = went.no_call.1;
       }

@@ -1,12 +1,11 @@
 -- The law of shifted names: the simulation for the relation "shifted", with the numbers that can be taken as its bound.
-use Rattle.std.proofs.Common.{◌≡◌, refl, sym, ap, subst, ◌∙◌, ℕ, ◌+◌, ◌*◌, ◌≤◌, ◌<◌, arith, Bool, true, false, ltb, List, true≢false, ltb-true, ltb-false, ne_eqb, lt_irrefl}
+use Rattle.std.proofs.Common.{◌≡◌, refl, sym, ap, subst, ◌∙◌, ℕ, ◌+◌, ◌≤◌, ◌<◌, arith, Bool, true, false, ltb, List, true≢false, ltb-true, ltb-false, ne_eqb, lt_irrefl}
 use Rattle.std.specs.Prelude.{◌==◌}
-use Rattle.std.proofs.Math.Nat.{mul-le-mul_left}
 use Rattle.expr_tree.specs.declared.sym.Sym.{Sym}
 use Rattle.expr_tree.specs.Tree.{Tree}
 use Rattle.semantics.specs.Definitions.{Definitions}
 use Rattle.semantics.specs.Scoping.{renamed}
-use Rattle.semantics.specs.Play.{Setting, State, Value, Throwing, Thrown, Play, Over, Calls, first_cause, last_number, begun}
+use Rattle.semantics.specs.Play.{Setting, State, Value, Throwing, Thrown, Play, Over, Calls, first_cause, last_number, whole, begun}
 use Rattle.semantics.specs.Eval.{Event, Ended, over, eval}
 use Rattle.laws_relations.proofs.Beyond.{Past, Beyond, put_number, back_number}
 use Rattle.laws_relations.proofs.Relation.{Faithful, size-like, depth-like, same-like}
@@ -15,7 +14,7 @@ use Rattle.laws_relations.proofs.Kin.{Kin}
 use Rattle.laws_relations.proofs.Passes.{pass-both}
 use Rattle.laws_relations.proofs.States.{LikeState, seen-like, written-like, put_locals-like, put_back-like}
 use Rattle.laws_relations.proofs.Shift.{shifted_above, shift_is_faithful}
-use Rattle.laws_numbers.proofs.Paying.{Ensures, Bounded, whole_pays, used_over}
+use Rattle.laws_numbers.proofs.Paying.{Alone, at_end, with_use, whole_alone, used_over}
 use Rattle.laws_shift.specs.Shift.{shift, shift_definitions, shift_outcome, shift_evaluation, ShiftedNames}
 use Rattle.laws_shift.proofs.Shifting.{S, shifts, definitions-shift, tree-is, definitions-are}
 
@@ -48,6 +47,8 @@ module _ (set : Setting) (from by bound : ℕ) (plain : 0 < from) (room : bound 
         faithful = faithful;
         bases = base-same;
         renames = number-shifts;
+        Outward = ⊥;
+        Texts = λ t u. Unit {0};
       }
 
   not_last : (n : ℕ) → n < last_number → (n == last_number) ≡ false
@@ -75,6 +76,7 @@ module _ (set : Setting) (from by bound : ℕ) (plain : 0 < from) (room : bound 
         sames = λ e f v x one same. same-like (S from by) set.names faithful same one;
         steps = λ s t states. states.steps;
         limited = refl;
+        quietly = λ outward. outward;
         step = λ s t states left. record {
           definitions = states.definitions;
           number = states.number;
@@ -137,18 +139,13 @@ module _ (set : Setting) (from by bound : ℕ) (plain : 0 < from) (room : bound 
   past_in (Beyond.over h) = h
   past_in Beyond.calls = tt
 
-  -- an evaluation from d never gets there
-  never_past : (d : Definitions) (e : Tree) (p : Play) (events : List Event) → d.module_number + (set.limits.recursion * set.limits.steps + set.limits.recursion) < bound
-      → Bounded set d e p → PastIn p → (over p events).used ≡ false → ⊥
-  never_past d e p events small (Ensures.value {t = t} one) far free = omega (arith, one.pays, far.0, mul-le-mul_left set.limits.recursion far.1, small)
-  never_past d e p events small (Ensures.stopped {t = t} one) far free = omega (arith, one.pays, far.0, mul-le-mul_left set.limits.recursion far.1, small)
-  never_past d e p events small (Ensures.throwing {t = t} one) far free = omega (arith, one.pays, far.0, mul-le-mul_left set.limits.recursion far.1, small)
-  never_past d e p events small (Ensures.thrown {t = t} one) far free = omega (arith, one.pays, far.0, mul-le-mul_left set.limits.recursion far.1, small)
-  never_past d e p events small (Ensures.quits {t = t} one) far free = omega (arith, one.pays, far.0, mul-le-mul_left set.limits.recursion far.1, small)
-  never_past d e p events small (Ensures.used h) far free = true≢false (sym (used_over h events) ∙ free)
+  -- an evaluation that ends below the bound was never there
+  never_past : {p : Play} (events : List Event) → (over p events).definitions.module_number < bound → Alone p → PastIn p → (over p events).used ≡ false → ⊥
+  never_past events small at_end far free = omega (arith, far.0, small)
+  never_past events small (with_use h) far free = true≢false (sym (used_over h events) ∙ free)
 
-  results-shift : (d : Definitions) (e : Tree) {p q : Play} (events : List Event) → d.module_number + (set.limits.recursion * set.limits.steps + set.limits.recursion) < bound
-      → Bounded set d e p → (over p events).used ≡ false → Quietly kin p q
+  results-shift : (d : Definitions) (e : Tree) {p q : Play} (events : List Event) → (over p events).definitions.module_number < bound
+      → Alone p → (over p events).used ≡ false → Quietly kin p q
       → over q events ≡ shift_evaluation from by (over p events)
   results-shift d e events small ensured free (quiet {s = s} {t = t} ends states) =
       λ i. record {
@@ -159,14 +156,14 @@ module _ (set : Setting) (from by bound : ℕ) (plain : 0 < from) (room : bound 
         rest = events;
       }
   results-shift d e events small ensured free (used h) = absurd (true≢false (sym (used_over h events) ∙ free))
-  results-shift d e {p} events small ensured free (beyond h) = absurd (never_past d e p events small ensured (past_in h) free)
+  results-shift d e {p} events small ensured free (beyond h) = absurd (never_past events small ensured (past_in h) free)
 
 pub shifted_names : ShiftedNames
 unfolding eval
 shifted_names set from by d e events plain below room free =
-    let bound : ℕ = d.module_number + (set.limits.recursion * set.limits.steps + set.limits.recursion) + 1 in
+    let bound : ℕ = (over (whole set d e) events).definitions.module_number + 1 in
     let enough : bound + by ≤ last_number = omega (arith, room) in
-    results-shift set from by bound plain enough d e events (omega arith) (whole_pays set d e) free
+    results-shift set from by bound plain enough d e events (omega arith) (whole_alone set d e) free
     (eval_at-alike (kin set from by bound plain enough) set (related set from by bound plain enough) set.limits.recursion e (shift from by e) (begun d) (begun (shift_definitions from by d))
     (shifts from by e)
     (record { definitions = definitions-shift from by d; number = (refl, below); steps = refl; within = omega arith; used = refl }))

@@ -6,7 +6,7 @@
 --     below                 whether each symbol's number is below a bound
 --     definitions_below     the same of definitions
 --     AnyModuleNumber       from a greater module number only generated names differ
-use Rattle.std.specs.Prelude.{◌≡◌, ℕ, ◌+◌, ◌*◌, ◌≤◌, ◌<◌, List, [], ◌∷◌, map, Option, Some, None, Bool, true, false, ltb, ◌&&◌}
+use Rattle.std.specs.Prelude.{◌≡◌, ℕ, ◌+◌, ◌≤◌, ◌<◌, List, [], ◌∷◌, map, Option, Some, None, Bool, true, false, ltb, ◌&&◌}
 use Rattle.expr_tree.specs.declared.sym.Sym.{Sym}
 use Rattle.expr_tree.specs.Tree.{Tree, integer, string, symbol, normal, Trees, nil, cons}
 use Rattle.semantics.specs.Rule.{Rule}
@@ -69,12 +69,12 @@ shift_evaluation from by a =
       rest = a.rest;
     }
 
--- Where names without a number stay, as those of the table are, where no number that a Module may still take stays, and where the numbers
--- that the evaluation can take end below the last one though they are shifted: an evaluation that ends with `used` false goes, shifted, the same way.
+-- Where names without a number stay, as those of the table are, where no number that a Module may still take stays, and where the number
+-- that the evaluation ends with is below the last one though it is shifted: an evaluation that ends with `used` false goes, shifted, the same way.
 abbrev pub ShiftedNames : Type 0
 ShiftedNames =
     (set : Setting) (from by : ℕ) (d : Definitions) (e : Tree) (events : List Event) → 0 < from → from ≤ d.module_number
-    → d.module_number + by + (set.limits.recursion * set.limits.steps + set.limits.recursion) < last_number → (eval set d e events).used ≡ false
+    → (eval set d e events).definitions.module_number + by < last_number → (eval set d e events).used ≡ false
     → eval set (shift_definitions from by d) (shift from by e) events ≡ shift_evaluation from by (eval set d e events)
 
 -- ---- where no symbol has a number that a Module may still take
@@ -127,5 +127,5 @@ abbrev pub AnyModuleNumber : Type 0
 AnyModuleNumber =
     (set : Setting) (by : ℕ) (d : Definitions) (e : Tree) (events : List Event) → 0 < d.module_number
     → definitions_below d.module_number d ≡ true → below d.module_number e ≡ true
-    → d.module_number + by + (set.limits.recursion * set.limits.steps + set.limits.recursion) < last_number → (eval set d e events).used ≡ false
+    → (eval set d e events).definitions.module_number + by < last_number → (eval set d e events).used ≡ false
     → DiffersInNames d.module_number by (eval set d e events) (eval set (with_number (d.module_number + by) d) e events)

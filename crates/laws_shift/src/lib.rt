@@ -1,6 +1,6 @@
 //! Laws of shifted names: an evaluation goes the same way from another module number, but for the generated names. The rows are
 //! compared by the lemmas of `laws_relations`, and the bound on the numbers taken is that of `laws_numbers`. Each function here has
-//! no code: its contract is a law.
+//! no code: its contract is a law, of evaluations that made no call and did not ask for the mode.
 #![tactic(auto)]
 
 ghost use Rattle.laws_shift.specs.Carried.{CarriedOver};

@@ -16,7 +16,8 @@ use Rattle.syntax.specs.Lines.{syntax_line}
 use Rattle.syntax.specs.Lines as Lines
 use Rattle.syntax.proofs.Read.{one_reading, one_offset}
 use Rattle.journal.specs.Places.{given}
-use Rattle.journal.specs.Entry.{Text, Entry}
+use Rattle.journal.specs.declared.event.Entry.{Entry}
+use Rattle.journal.specs.Entry.{Text}
 use Rattle.journal.specs.Core.{Setup, in_mode}
 use Rattle.journal.specs.Run.{Walk, Course, Goes, going, Finish, play_along, Reading, Reads, Unread, Line, Printed, Out, Syntax, Ran, cell_lines, run_cell, run_cells, first_walk, run_along, whole_run, closes, legal, Legal, transcript, written}
 use Rattle.journal.specs.Run as Run

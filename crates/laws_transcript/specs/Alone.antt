@@ -7,15 +7,18 @@ use Rattle.script_text.specs.Spelling.{by_texts, place_in}
 use Rattle.semantics.specs.Definitions.{Definitions, empty}
 use Rattle.semantics.specs.Texts.{names_of}
 use Rattle.journal.specs.declared.recover.Recover.{Recover}
-use Rattle.journal.specs.Entry.{Text, Entry, Event}
+use Rattle.journal.specs.declared.event.Event.{Event}
+use Rattle.journal.specs.declared.event.Entry.{Entry}
+use Rattle.journal.specs.Entry.{Text}
 use Rattle.journal.specs.Core.{Setup}
 use Rattle.journal.specs.Run.{Reading, Reads, Unread, Legal}
-use Rattle.journal.specs.Transcript.{setup_of, AreReadings, transcript_text}
+use Rattle.journal.specs.Members.{setup_of}
+use Rattle.journal.specs.Transcript.{opening, AreReadings, transcript_text}
 use Rattle.sequential_transcript.specs.Transcript.{ran, Prints}
 
 -- with no kernels
 abbrev pub no_kernels : List Text → ℕ → Setup
-no_kernels texts steps = setup_of texts 0 steps Recover.Retry
+no_kernels texts steps = setup_of (opening texts 0 steps Recover.Retry)
 
 module _ (texts : List Text) (steps : ℕ) where
   -- it has a value: no name that is not built stands in it, and its evaluation needs no call

@@ -3,12 +3,11 @@ ghost use Rattle.std.specs.Prelude.{◌≡◌, ◌++◌, OnOk};
 ghost use Rattle.expr_tree.specs.Tree.{call};
 ghost use Rattle.semantics.specs.Names.{make};
 ghost use Rattle.semantics.specs.Worked.{Gives};
-ghost use Rattle.builtin_names.specs.Named.{HasBuiltins, names_in};
+ghost use Rattle.builtin_names.specs.Named.{names_in};
 ghost use Rattle.builtin_names.specs.Results.{Works};
 
-use builtin_names::{Fault, name};
+use builtin_names::{Fault, Vocabulary, name};
 use expr_tree::{Expr, Exprs};
-use name_table::Names;
 use semantics::Builtin;
 use std::alloc::{AllocError, Global};
 
@@ -22,11 +21,10 @@ pub(crate) fn call(alloc: Global, head: Expr, items: Exprs) -> Result<Option<Exp
 /// The elements under the symbol of a row.
 pub(crate) fn make(
     alloc: Global,
-    names: &Names,
+    names: &Vocabulary,
     row: Builtin,
     items: Exprs,
 ) -> Result<Option<Expr>, Fault>
-    requires names { HasBuiltins names.now }
     ensures { Works (Gives (make (names_in names.now) row items)) result }
 {
     call(alloc, name(names, row), items)

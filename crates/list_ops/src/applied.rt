@@ -3,15 +3,14 @@ ghost use Rattle.std.specs.Prelude.{◌≡◌, ◌+◌, map};
 ghost use Rattle.expr_tree.specs.Tree.{trees, size};
 ghost use Rattle.expr_tree.specs.Limits.{Assembles, MakesAll};
 ghost use Rattle.semantics.specs.Lists as l;
-ghost use Rattle.builtin_names.specs.Named.{HasBuiltins, names_in};
+ghost use Rattle.builtin_names.specs.Named.{names_in};
 ghost use Rattle.builtin_names.specs.Results.{Works};
 ghost use Rattle.list_ops.specs.Holds.{is_hold};
 
 use crate::answer::{call, make, same};
-use builtin_names::{Fault, is_name, items_under};
+use builtin_names::{Fault, Vocabulary, is_name, items_under};
 use expr_tree::{Built, Expr, Exprs, MAX_SIZE, Node, copy_items};
 use item_list::Items;
-use name_table::Names;
 use semantics::Builtin;
 use std::alloc::Global;
 
@@ -75,8 +74,7 @@ pub fn row_apply(alloc: Global, items: &Exprs) -> Result<Option<Expr>, Fault>
 }
 
 /// `Total`.
-pub fn row_total(alloc: Global, names: &Names, items: &Exprs) -> Result<Option<Expr>, Fault>
-    requires names { HasBuiltins names.now }
+pub fn row_total(alloc: Global, names: &Vocabulary, items: &Exprs) -> Result<Option<Expr>, Fault>
     ensures { Works (l.total (names_in names.now) items.now) result }
 {
     let [e] = items.as_slice() else {
@@ -88,8 +86,7 @@ pub fn row_total(alloc: Global, names: &Names, items: &Exprs) -> Result<Option<E
     }
 }
 
-fn is_hold(names: &Names, head: &Expr) -> bool
-    requires names { HasBuiltins names.now }
+fn is_hold(names: &Vocabulary, head: &Expr) -> bool
     ensures { result ≡ is_hold (names_in names.now) head.now }
 {
     is_name(names, Builtin::Hold, head)
@@ -99,8 +96,11 @@ fn is_hold(names: &Names, head: &Expr) -> bool
 
 /// `ReleaseHold`.
 #[tactic(auto, using(crate::proofs::Holds::hold_steps))]
-pub fn row_release_hold(alloc: Global, names: &Names, items: &Exprs) -> Result<Option<Expr>, Fault>
-    requires names { HasBuiltins names.now }
+pub fn row_release_hold(
+    alloc: Global,
+    names: &Vocabulary,
+    items: &Exprs,
+) -> Result<Option<Expr>, Fault>
     ensures { Works (l.released (names_in names.now) items.now) result }
 {
     let [e] = items.as_slice() else {

@@ -1,16 +1,15 @@
 //! The rows that leave elements out at the ends or between.
 ghost use Rattle.std.specs.Prelude.{◌≡◌, ◌+◌, ◌≤◌, [], ◌∷◌, IfOk, IfSome};
 ghost use Rattle.semantics.specs.Lists as l;
-ghost use Rattle.builtin_names.specs.Named.{HasBuiltins, names_in};
+ghost use Rattle.builtin_names.specs.Named.{names_in};
 ghost use Rattle.builtin_names.specs.Results.{Works};
 ghost use Rattle.list_ops.specs.Fronts.{front_of};
 ghost use Rattle.list_ops.specs.Spans.{end_span, list_span, inside, outside};
 
 use crate::answer::{call, put_behind};
-use builtin_names::{Fault, items_under};
+use builtin_names::{Fault, Vocabulary, items_under};
 use expr_lists::copies;
 use expr_tree::{Expr, Exprs, Node};
-use name_table::Names;
 use semantics::Builtin;
 use std::alloc::{AllocError, Global};
 
@@ -82,8 +81,7 @@ fn between(count: usize, first: i128, last: i128) -> Option<(usize, usize)>
 
 /// The span that a List of two places asks for.
 #[tactic(auto, using(crate::proofs::Spans::list_steps))]
-fn list_span(names: &Names, count: usize, e: &Expr) -> Option<(usize, usize)>
-    requires names { HasBuiltins names.now }
+fn list_span(names: &Vocabulary, count: usize, e: &Expr) -> Option<(usize, usize)>
     ensures value { result ≡ list_span (names_in names.now) count e.now }
     ensures within { IfSome result (λ s. s.0 + s.1 ≤ count) }
 {
@@ -116,8 +114,7 @@ fn end_span(count: usize, number: i128) -> Option<(usize, usize)>
 
 /// The span of so many elements that is asked for.
 #[tactic(auto, using(crate::proofs::Spans::span_steps))]
-fn span(names: &Names, count: usize, e: &Expr) -> Option<(usize, usize)>
-    requires names { HasBuiltins names.now }
+fn span(names: &Vocabulary, count: usize, e: &Expr) -> Option<(usize, usize)>
     ensures value { result ≡ l.span (names_in names.now) count e.now }
     ensures within { IfSome result (λ s. s.0 + s.1 ≤ count) }
 {
@@ -131,11 +128,10 @@ fn span(names: &Names, count: usize, e: &Expr) -> Option<(usize, usize)>
 #[tactic(auto, using(crate::proofs::Spans::inside_steps))]
 fn inside(
     alloc: Global,
-    names: &Names,
+    names: &Vocabulary,
     items: &[Expr],
     asked: &Expr,
 ) -> Result<Option<Exprs>, AllocError>
-    requires names { HasBuiltins names.now }
     ensures { IfOk result (λ o. o ≡ inside (names_in names.now) items.now asked.now) }
 {
     match span(names, items.len(), asked) {
@@ -148,11 +144,10 @@ fn inside(
 #[tactic(auto, using(crate::proofs::Spans::outside_steps))]
 fn outside(
     alloc: Global,
-    names: &Names,
+    names: &Vocabulary,
     items: &[Expr],
     asked: &Expr,
 ) -> Result<Option<Exprs>, AllocError>
-    requires names { HasBuiltins names.now }
     ensures { IfOk result (λ o. o ≡ outside (names_in names.now) items.now asked.now) }
 {
     match span(names, items.len(), asked) {
@@ -166,8 +161,7 @@ fn outside(
 }
 
 #[tactic(auto, using(crate::proofs::Spans::taken_steps))]
-fn taken(alloc: Global, names: &Names, e: &Expr, asked: &Expr) -> Result<Option<Expr>, Fault>
-    requires names { HasBuiltins names.now }
+fn taken(alloc: Global, names: &Vocabulary, e: &Expr, asked: &Expr) -> Result<Option<Expr>, Fault>
     ensures { Works (l.taken (names_in names.now) (e.now ∷ asked.now ∷ [])) result }
 {
     let Node::Normal(head, elements) = e.node() else {
@@ -180,8 +174,7 @@ fn taken(alloc: Global, names: &Names, e: &Expr, asked: &Expr) -> Result<Option<
 }
 
 /// `Take`.
-pub fn row_take(alloc: Global, names: &Names, items: &Exprs) -> Result<Option<Expr>, Fault>
-    requires names { HasBuiltins names.now }
+pub fn row_take(alloc: Global, names: &Vocabulary, items: &Exprs) -> Result<Option<Expr>, Fault>
     ensures { Works (l.taken (names_in names.now) items.now) result }
 {
     match items.as_slice() {
@@ -191,8 +184,7 @@ pub fn row_take(alloc: Global, names: &Names, items: &Exprs) -> Result<Option<Ex
 }
 
 #[tactic(auto, using(crate::proofs::Spans::dropped_steps))]
-fn dropped(alloc: Global, names: &Names, e: &Expr, asked: &Expr) -> Result<Option<Expr>, Fault>
-    requires names { HasBuiltins names.now }
+fn dropped(alloc: Global, names: &Vocabulary, e: &Expr, asked: &Expr) -> Result<Option<Expr>, Fault>
     ensures { Works (l.dropped (names_in names.now) (e.now ∷ asked.now ∷ [])) result }
 {
     let Node::Normal(head, elements) = e.node() else {
@@ -205,8 +197,7 @@ fn dropped(alloc: Global, names: &Names, e: &Expr, asked: &Expr) -> Result<Optio
 }
 
 /// `Drop`.
-pub fn row_drop(alloc: Global, names: &Names, items: &Exprs) -> Result<Option<Expr>, Fault>
-    requires names { HasBuiltins names.now }
+pub fn row_drop(alloc: Global, names: &Vocabulary, items: &Exprs) -> Result<Option<Expr>, Fault>
     ensures { Works (l.dropped (names_in names.now) items.now) result }
 {
     match items.as_slice() {

@@ -2,15 +2,14 @@
 ghost use Rattle.std.specs.Prelude.{◌≡◌, ◌++◌, ◌≤◌, OnOk};
 ghost use Rattle.expr_tree.specs.Tree.{trees};
 ghost use Rattle.semantics.specs.Lists as l;
-ghost use Rattle.builtin_names.specs.Named.{HasBuiltins, names_in};
+ghost use Rattle.builtin_names.specs.Named.{names_in};
 ghost use Rattle.builtin_names.specs.Results.{Works};
 ghost use Rattle.list_ops.specs.Flat.{levels_of, flat_to};
 
 use crate::answer::call;
-use builtin_names::{Fault, items_under};
+use builtin_names::{Fault, Vocabulary, items_under};
 use expr_tree::{Expr, Exprs, Node};
 use item_list::Items;
-use name_table::Names;
 use semantics::Builtin;
 use std::alloc::{AllocError, Global};
 
@@ -19,12 +18,11 @@ use std::alloc::{AllocError, Global};
 #[tactic(auto, using(crate::proofs::Flattened::flat_steps))]
 fn put_flat(
     alloc: Global,
-    names: &Names,
+    names: &Vocabulary,
     made: &mut Exprs,
     e: &Expr,
     levels: u32,
 ) -> Result<(), AllocError>
-    requires names { HasBuiltins names.now }
     ensures { OnOk result (made.new ≡ made.old ++ l.flat_item (names_in names.now) e.now levels) }
 {
     if levels == 0 {
@@ -44,12 +42,11 @@ fn put_flat(
 #[tactic(auto, using(crate::proofs::Flattened::flat_steps))]
 fn put_all_flat(
     alloc: Global,
-    names: &Names,
+    names: &Vocabulary,
     made: &mut Exprs,
     items: &[Expr],
     levels: u32,
 ) -> Result<(), AllocError>
-    requires names { HasBuiltins names.now }
     ensures { OnOk result (made.new ≡ made.old ++ l.flat_items (names_in names.now) (trees items.now) levels) }
 {
     for item in items {
@@ -71,8 +68,12 @@ fn levels_of(number: i128) -> Option<u32>
     }
 }
 
-fn flattened(alloc: Global, names: &Names, e: &Expr, levels: u32) -> Result<Option<Expr>, Fault>
-    requires names { HasBuiltins names.now }
+fn flattened(
+    alloc: Global,
+    names: &Vocabulary,
+    e: &Expr,
+    levels: u32,
+) -> Result<Option<Expr>, Fault>
     ensures { Works (flat_to (names_in names.now) e.now levels) result }
 {
     let Node::Normal(head, elements) = e.node() else {
@@ -85,8 +86,7 @@ fn flattened(alloc: Global, names: &Names, e: &Expr, levels: u32) -> Result<Opti
 
 /// `Flatten`.
 #[tactic(auto, using(crate::proofs::Flattened::row_steps))]
-pub fn row_flatten(alloc: Global, names: &Names, items: &Exprs) -> Result<Option<Expr>, Fault>
-    requires names { HasBuiltins names.now }
+pub fn row_flatten(alloc: Global, names: &Vocabulary, items: &Exprs) -> Result<Option<Expr>, Fault>
     ensures { Works (l.flatten_row (names_in names.now) items.now) result }
 {
     match items.as_slice() {

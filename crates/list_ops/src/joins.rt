@@ -2,15 +2,14 @@
 ghost use Rattle.std.specs.Prelude.{◌≡◌, IfOk};
 ghost use Rattle.std.specs.Option.{option_map};
 ghost use Rattle.semantics.specs.Lists as l;
-ghost use Rattle.builtin_names.specs.Named.{HasBuiltins, names_in};
+ghost use Rattle.builtin_names.specs.Named.{names_in};
 ghost use Rattle.builtin_names.specs.Results.{Works};
 ghost use Rattle.list_ops.specs.Under.{under};
 
 use crate::answer::{call, make, put_behind};
-use builtin_names::Fault;
+use builtin_names::{Fault, Vocabulary};
 use expr_tree::{Expr, Exprs, Node};
 use item_list::Items;
-use name_table::Names;
 use semantics::Builtin;
 use std::alloc::{AllocError, Global};
 
@@ -42,8 +41,7 @@ fn joined(alloc: Global, head: &Expr, items: &[Expr]) -> Result<Option<Exprs>, A
 
 /// `Join`.
 #[tactic(auto, using(crate::proofs::Joined::join_steps))]
-pub fn row_join(alloc: Global, names: &Names, items: &Exprs) -> Result<Option<Expr>, Fault>
-    requires names { HasBuiltins names.now }
+pub fn row_join(alloc: Global, names: &Vocabulary, items: &Exprs) -> Result<Option<Expr>, Fault>
     ensures { Works (l.join (names_in names.now) items.now) result }
 {
     let [first, ..] = items.as_slice() else {

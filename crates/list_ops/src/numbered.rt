@@ -3,16 +3,15 @@ ghost use Rattle.std.specs.Prelude.{◌≡◌, ◌+◌, ◌*◌, ◌<◌, ◌≤
 ghost use Rattle.expr_tree.specs.Tree.{size};
 ghost use Rattle.semantics.specs.Control.{steps_to};
 ghost use Rattle.semantics.specs.Lists as l;
-ghost use Rattle.builtin_names.specs.Named.{HasBuiltins, names_in};
+ghost use Rattle.builtin_names.specs.Named.{names_in};
 ghost use Rattle.builtin_names.specs.Results.{Works};
 ghost use Rattle.list_ops.specs.Counted.{count_of};
 
 use crate::answer::make;
 use crate::applied::mapped_all;
-use builtin_names::Fault;
+use builtin_names::{Fault, Vocabulary};
 use expr_tree::{Built, Expr, Exprs, MAX_SIZE, Node};
 use item_list::Items;
-use name_table::Names;
 use semantics::Builtin;
 use std::alloc::{AllocError, Global};
 
@@ -57,10 +56,9 @@ fn count_of(number: i128) -> u64
 #[tactic(auto, using(crate::proofs::Counted::repeated_steps))]
 pub fn row_constant_array(
     alloc: Global,
-    names: &Names,
+    names: &Vocabulary,
     items: &Exprs,
 ) -> Result<Option<Expr>, Fault>
-    requires names { HasBuiltins names.now }
     ensures { Works (l.constant_array (names_in names.now) items.now) result }
 {
     let [e, number] = items.as_slice() else {
@@ -78,8 +76,7 @@ pub fn row_constant_array(
 
 /// `Array`.
 #[tactic(auto, using(crate::proofs::Counted::array_steps))]
-pub fn row_array(alloc: Global, names: &Names, items: &Exprs) -> Result<Option<Expr>, Fault>
-    requires names { HasBuiltins names.now }
+pub fn row_array(alloc: Global, names: &Vocabulary, items: &Exprs) -> Result<Option<Expr>, Fault>
     ensures { Works (l.array (names_in names.now) items.now) result }
 {
     let [function, number] = items.as_slice() else {

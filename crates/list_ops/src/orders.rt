@@ -1,17 +1,16 @@
 //! The rows that put the elements in another order.
 ghost use Rattle.std.specs.Prelude.{◌≡◌, ◌<◌, IfOk, drop, length};
 ghost use Rattle.semantics.specs.Lists as l;
-ghost use Rattle.builtin_names.specs.Named.{HasBuiltins, names_in};
+ghost use Rattle.builtin_names.specs.Named.{names_in};
 ghost use Rattle.builtin_names.specs.Results.{Works};
 ghost use Rattle.list_ops.specs.Repeats.{repeats};
 
 use crate::answer::{call, make, put_behind};
 use attr_steps::order;
-use builtin_names::{Fault, items_under};
+use builtin_names::{Fault, Vocabulary, items_under};
 use expr_lists::copies;
 use expr_tree::{Expr, Exprs, Node};
 use item_list::Items;
-use name_table::Names;
 use semantics::Builtin;
 use std::alloc::{AllocError, Global};
 
@@ -76,8 +75,7 @@ fn distinct(alloc: Global, items: &[Expr]) -> Result<Exprs, AllocError>
 
 /// The elements of Lists, one after the other.
 #[tactic(auto, using(crate::proofs::Distinct::listed_steps))]
-fn listed(alloc: Global, names: &Names, items: &[Expr]) -> Result<Option<Exprs>, AllocError>
-    requires names { HasBuiltins names.now }
+fn listed(alloc: Global, names: &Vocabulary, items: &[Expr]) -> Result<Option<Exprs>, AllocError>
     ensures { IfOk result (λ o. o ≡ l.all_lists (names_in names.now) items.now) }
 {
     let mut made = Items::new(alloc);
@@ -92,8 +90,7 @@ fn listed(alloc: Global, names: &Names, items: &[Expr]) -> Result<Option<Exprs>,
 
 /// `Union`.
 #[tactic(auto, using(crate::proofs::Distinct::union_steps))]
-pub fn row_union(alloc: Global, names: &Names, items: &Exprs) -> Result<Option<Expr>, Fault>
-    requires names { HasBuiltins names.now }
+pub fn row_union(alloc: Global, names: &Vocabulary, items: &Exprs) -> Result<Option<Expr>, Fault>
     ensures { Works (l.union (names_in names.now) items.now) result }
 {
     if items.is_empty() {

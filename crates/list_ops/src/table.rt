@@ -1,7 +1,7 @@
 //! The rows of this crate by their names.
 ghost use Rattle.std.specs.Prelude.{◌≡◌, IfSome, is_some};
 ghost use Rattle.semantics.specs.Table.{worked};
-ghost use Rattle.builtin_names.specs.Named.{HasBuiltins, names_in};
+ghost use Rattle.builtin_names.specs.Named.{names_in};
 ghost use Rattle.builtin_names.specs.Results.{Works};
 ghost use Rattle.row_kinds.specs.Kinds.{is_of_lists};
 
@@ -12,9 +12,8 @@ use crate::flattening::row_flatten;
 use crate::joins::row_join;
 use crate::numbered::{row_array, row_constant_array};
 use crate::orders::{row_reverse, row_sort, row_union};
-use builtin_names::Fault;
+use builtin_names::{Fault, Vocabulary};
 use expr_tree::{Expr, Exprs};
-use name_table::Names;
 use semantics::Builtin;
 use std::alloc::Global;
 
@@ -23,10 +22,9 @@ use std::alloc::Global;
 pub fn rewrite(
     alloc: Global,
     row: Builtin,
-    names: &Names,
+    names: &Vocabulary,
     items: &Exprs,
 ) -> Option<Result<Option<Expr>, Fault>>
-    requires names { HasBuiltins names.now }
     ensures known { is_some result ≡ is_of_lists row }
     ensures value { IfSome result (λ r. Works (worked (names_in names.now) row items.now) r) }
 {

@@ -23,8 +23,6 @@ pub record Leads (set : Setting) (p : Prog) (d : Definitions) (used : Bool) (q :
 pub goes_on : {set : Setting} {p q stay : Prog} {d d1 d' : Definitions} {used used1 used' : Bool} (r : Result Move Halt) {rest : Option Tree → Prog}
     → Leads set p d used q d1 used1 → Stepped set q stay d1 used1 r rest d' used' → Stepped set p stay d used r rest d' used'
 goes_on (Ok m) e h = record { by = λ steps o. λ ev. e.by ev steps o ∙ h.by steps o ev }
-goes_on (Err Halt.Quit) e h = record { by = λ steps o. λ ev. e.by ev steps o ∙ h.by steps o ev }
-goes_on (Err Halt.Closed) e h = record { by = λ steps o. h.by steps o }
 goes_on (Err Halt.NoMemory) e h = record { by = λ steps o. tt }
 goes_on {set = set} {p = p} {q = q} {d = d} {d1 = d1} {d' = d'} {used = used} {used1 = used1} {used' = used'} (Err (Halt.Stopped c)) e h = record { by = λ steps o. go steps o (h.by steps o) }
   where
@@ -107,6 +105,4 @@ starts_as (Err x) e h = record { by = tt }
 pub ends_large : {set : Setting} {stay : Prog} {d : Definitions} {used : Bool} {rest : Option Tree → Prog} (v : Tree) (h : Halt) → HaltsFor set.limits v h
     → Stepped set (Done v) stay d used (Err h) rest d used
 ends_large v (Halt.Stopped c) h = record { by = λ steps o. inr (v, (λ ev. refl), h.by) }
-ends_large v Halt.Quit h = absurd h.by
-ends_large v Halt.Closed h = absurd h.by
 ends_large v Halt.NoMemory h = record { by = λ steps o. tt }

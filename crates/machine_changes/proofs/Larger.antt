@@ -9,7 +9,7 @@ use Rattle.expr_tree.specs.Tree.{Tree, integer, string, symbol, normal, trees, s
 use Rattle.expr_tree.proofs.Same.{tree_eq-true}
 use Rattle.expr_tree.proofs.Trees.{elements-trees}
 use Rattle.semantics.specs.declared.builtin.Builtin.{Builtin}
-use Rattle.semantics.specs.Names.{Names, is_call, is_name, items_of, known, make, name}
+use Rattle.semantics.specs.Names.{IsNames, Names, is_call, is_name, items_of, known, make, name}
 use Rattle.semantics.specs.Assemble.{check_all, threaded}
 use Rattle.semantics.specs.Assign.{Form, ToHead, ToItems, ToTag, Up, Down, Target, Why, IsProtected, NoSymbol, Nested, NoTag, add_symbol, all_at, asked_symbols, has_no_symbol, first_protected, inner, is_nested, is_that, is_wrapper, item_symbols, places, places_in, refusal}
 use Rattle.semantics.specs.Changes.{any_shared, assign, attach_all, attaches_shared, holders, holding, holds, protected_in, see_all, unless_item, unset_from}
@@ -20,8 +20,7 @@ use Rattle.semantics.specs.Program.{Prog, Ask, Done, Seen, Mode, Cell, Item, Ser
 use Rattle.semantics.specs.Rule.{Rule, has_left}
 use Rattle.semantics.specs.Steps.{all_of_length, first_length, tails_of, thread, threads}
 use Rattle.name_table.specs.Table.{NameTable}
-use Rattle.builtin_names.specs.Named.{HasBuiltins, names_in}
-use Rattle.builtin_names.proofs.Rows.{found}
+use Rattle.builtin_names.specs.Named.{names_in}
 use Rattle.kernel_defs.proofs.Entries.{same_itself}
 use Rattle.kernel_defs.proofs.Wrappers.{inner_of_other}
 use Rattle.kernel_defs.proofs.Runs.{seen_all, see_all_runs}
@@ -33,7 +32,7 @@ use Rattle.kernel_defs.specs.declared.targets.Form as code
 use Rattle.kernel_defs.specs.Targets.{form_of}
 use Rattle.machine_changes.specs.Assigning.{asks_right, assigned, begun, is_delayed}
 use Rattle.machine_changes.specs.Shapes.{symbol_in}
-use Rattle.machine_changes.specs.declared.left_call.Left.{Left}
+use Rattle.machine_changes.specs.declared.left_call.LeftSide.{LeftSide}
 use Rattle.machine_changes.specs.Effects.{Evaluates}
 use Rattle.machine_changes.specs.Larger.{AreUnder, IsLarge, Replaces}
 
@@ -105,7 +104,7 @@ large_some names (x ∷ xs) p e = cc
 
 pub large_stands : {set : Setting} (head : Sym) (each : List Tree) (e : Tree) → ((each ≡ [] → ⊥) → AreUnder head each) → IsLarge (make set.names Builtin.List each)
     → e ≡ make set.names Builtin.List (symbol head ∷ []) → ((p : Prog) (ev : Evaluator) (st : State) → run set ev (check_all each p) st ≡ run set ev p st)
-    → Evaluates set (λ k. check_all each (k (make set.names Builtin.List each))) (Ok (Left.Large e))
+    → Evaluates set (λ k. check_all each (k (make set.names Builtin.List each))) (Ok (LeftSide.Large e))
 large_stands {set = set} head each e under large instead fits =
     let l = make set.names Builtin.List each in
     record {
@@ -118,11 +117,10 @@ large_stands {set = set} head each e under large instead fits =
 
 -- ---- a List is no wrapper
 
-role_here : (table : NameTable) → HasBuiltins table → (row : Builtin) → (names_in table).role ((names_in table).place row) ≡ Some row
-unfolding names_in
-role_here table has row = found table.texts row (has.kept row)
+role_here : (table : NameTable) → IsNames (names_in table) → (row : Builtin) → (names_in table).role ((names_in table).place row) ≡ Some row
+role_here table has row = has.found row
 
-other_name : (table : NameTable) → HasBuiltins table → (row : Builtin) → (Some row ≡ Some Builtin.List → ⊥) → is_name (names_in table) row (name (names_in table) Builtin.List) ≡ false
+other_name : (table : NameTable) → IsNames (names_in table) → (row : Builtin) → (Some row ≡ Some Builtin.List → ⊥) → is_name (names_in table) row (name (names_in table) Builtin.List) ≡ false
 other_name table has row apart = go ((names_in table).place Builtin.List == (names_in table).place row) refl
   where
     go : (b : Bool) → ((names_in table).place Builtin.List == (names_in table).place row) ≡ b → ((names_in table).place Builtin.List == (names_in table).place row) ≡ false
@@ -133,13 +131,13 @@ other_name table has row apart = go ((names_in table).place Builtin.List == (nam
         ∙ ap (names_in table).role (sym (eqb-true ((names_in table).place Builtin.List) ((names_in table).place row) e))
         ∙ role_here table has Builtin.List))
 
-no_wrapper : (table : NameTable) → HasBuiltins table → (es : List Tree) → is_wrapper (names_in table) (name (names_in table) Builtin.List) (trees es) ≡ false
+no_wrapper : (table : NameTable) → IsNames (names_in table) → (es : List Tree) → is_wrapper (names_in table) (name (names_in table) Builtin.List) (trees es) ≡ false
 no_wrapper table has [] = refl
 no_wrapper table has (e ∷ []) = other_name table has Builtin.HoldPattern (λ e. absurd (cc))
 no_wrapper table has (e ∷ f ∷ []) = other_name table has Builtin.Condition (λ e. absurd (cc))
 no_wrapper table has (e ∷ f ∷ g ∷ es) = refl
 
-pub inner_list : (table : NameTable) → HasBuiltins table → (es : List Tree) → inner (names_in table) (make (names_in table) Builtin.List es) ≡ make (names_in table) Builtin.List es
+pub inner_list : (table : NameTable) → IsNames (names_in table) → (es : List Tree) → inner (names_in table) (make (names_in table) Builtin.List es) ≡ make (names_in table) Builtin.List es
 inner_list table has es = inner_of_other (names_in table) (name (names_in table) Builtin.List) es (no_wrapper table has es)
 
 -- ---- nothing is assigned to a List
@@ -166,7 +164,7 @@ has_cause None true nested targets h = refl
 has_cause None false true targets h = refl
 has_cause None false false targets h = absurd (true≢false (sym h))
 
-list_refused : (table : NameTable) → HasBuiltins table → (protected : Sym → Bool) (form : Form) (es : List Tree) → is_some (refusal (names_in table) protected form (make (names_in table) Builtin.List es)) ≡ true
+list_refused : (table : NameTable) → IsNames (names_in table) → (protected : Sym → Bool) (form : Form) (es : List Tree) → is_some (refusal (names_in table) protected form (make (names_in table) Builtin.List es)) ≡ true
 list_refused table has protected form es =
     let names = names_in table in
     let l = make names Builtin.List es in
@@ -184,7 +182,7 @@ fails_by names targets left right p None h = absurd (true≢false (sym h))
 abbrev refusing : Names → Form → List Target → Prog
 refusing names form targets = see_all (asked_symbols form targets) (λ seen. unless_item names (attaches_shared targets seen) (failed names))
 
-assign_refuses : (table : NameTable) → HasBuiltins table → (form : Form) (es : List Tree) (right : Tree) (p : Prog)
+assign_refuses : (table : NameTable) → IsNames (names_in table) → (form : Form) (es : List Tree) (right : Tree) (p : Prog)
     → assign (names_in table) form (make (names_in table) Builtin.List es) right p ≡ refusing (names_in table) form (places (names_in table) form (make (names_in table) Builtin.List es))
 assign_refuses table has form es right p =
     let names = names_in table in
@@ -207,7 +205,7 @@ places_alike names (ToTag t) es fs h =
     (symbols_made names es ∙ h ∙ sym (symbols_made names fs))
 
 -- Lists whose items have the same symbols are alike to an assignment
-assign_alike : (table : NameTable) → HasBuiltins table → (form : Form) (es fs : List Tree) (right : Tree) (p : Prog) → item_symbols es [] ≡ item_symbols fs []
+assign_alike : (table : NameTable) → IsNames (names_in table) → (form : Form) (es fs : List Tree) (right : Tree) (p : Prog) → item_symbols es [] ≡ item_symbols fs []
     → assign (names_in table) form (make (names_in table) Builtin.List es) right p ≡ assign (names_in table) form (make (names_in table) Builtin.List fs) right p
 assign_alike table has form es fs right p h =
     let names = names_in table in
@@ -216,7 +214,7 @@ assign_alike table has form es fs right p h =
     ap (places_in form) (inner_list table has es) ∙ places_alike names form es fs h ∙ sym (ap (places_in form) (inner_list table has fs)))
     ∙ sym (assign_refuses table has form fs right p)
 
-assigned_alike : (table : NameTable) → HasBuiltins table → (form : code.Form) (e l right : Tree) → Replaces (names_in table) e l
+assigned_alike : (table : NameTable) → IsNames (names_in table) → (form : code.Form) (e l right : Tree) → Replaces (names_in table) e l
     → assigned (names_in table) form right l ≡ assigned (names_in table) form right e
 assigned_alike table has form e l right r =
     let names = names_in table in
@@ -225,7 +223,7 @@ assigned_alike table has form e l right r =
     ∙ assign_alike table has (form_of form) r.each (symbol r.head ∷ []) right p (r.under [])
     ∙ ap (λ x. assign names (form_of form) x right p) (sym r.instead)
 
-pub begun_alike : (table : NameTable) → HasBuiltins table → (form : code.Form) (e l right : Tree) → Replaces (names_in table) e l
+pub begun_alike : (table : NameTable) → IsNames (names_in table) → (form : code.Form) (e l right : Tree) → Replaces (names_in table) e l
     → begun (names_in table) form right l ≡ begun (names_in table) form right e
 begun_alike table has form e l right r =
     λ i. elim (asks_right form) [ true ↦ Ask right (λ v. assigned_alike table has form e l v r i) | false ↦ assigned_alike table has form e l right r i ]
@@ -281,13 +279,13 @@ held_none names d l xs ss i s e large p downs ups =
 
 -- ---- Unset of such a List
 
-holders_made : (table : NameTable) → HasBuiltins table → (es : List Tree) → holders (names_in table) (make (names_in table) Builtin.List es) ≡ item_symbols es (known (names_in table) Builtin.List ∷ [])
+holders_made : (table : NameTable) → IsNames (names_in table) → (es : List Tree) → holders (names_in table) (make (names_in table) Builtin.List es) ≡ item_symbols es (known (names_in table) Builtin.List ∷ [])
 holders_made table has es =
     let names = names_in table in
     ap (λ x. item_symbols (items_of x) (add_symbol (symbol_of x) [])) (inner_list table has es)
     ∙ ap (λ xs. item_symbols xs (known names Builtin.List ∷ [])) (elements-trees es)
 
-holders_alike : (table : NameTable) → HasBuiltins table → (e l : Tree) → Replaces (names_in table) e l → holders (names_in table) l ≡ holders (names_in table) e
+holders_alike : (table : NameTable) → IsNames (names_in table) → (e l : Tree) → Replaces (names_in table) e l → holders (names_in table) l ≡ holders (names_in table) e
 holders_alike table has e l r =
     let names = names_in table in
     ap (holders names) r.is
@@ -306,7 +304,7 @@ item_fails set true {d = d} = record { by = λ ev steps o. go ev steps o set.mod
     go ev steps o Cell = refl
     go ev steps o Service = refl
 
-pub unset_large : (set : Setting) (table : NameTable) → HasBuiltins table → (e l : Tree) (ss : List Sym) (b : Bool) {d : Definitions} {used used' : Bool} → set.names ≡ names_in table
+pub unset_large : (set : Setting) (table : NameTable) → IsNames (names_in table) → (e l : Tree) (ss : List Sym) (b : Bool) {d : Definitions} {used used' : Bool} → set.names ≡ names_in table
     → Replaces set.names e l → ss ≡ holders set.names e → b ≡ any_shared (seen_all set.names d ss) → used' ≡ (b || used) → holding l (seen_all set.names d ss) ≡ []
     → Leads set (unset_at set.names l) d used (failed set.names) d used'
 unset_large set table has e l ss b {d = d} {used = used} n r s f u h =

@@ -55,8 +55,6 @@ check_fits {set = set} p {d = d} {used = used} h = record { by = λ ev steps o. 
 pub check_halts : {set : Setting} (e : Tree) (p : Prog) (h : Halt) {stay : Prog} {d : Definitions} {used : Bool} {rest : Option Tree → Prog} → HaltsFor set.limits e h
     → Stepped set (Check e p) stay d used (Err h) rest d used
 check_halts {set = set} e p (Halt.Stopped c) {d = d} {used = used} h = record { by = λ steps o. inl (λ ev. ap (λ x. unless_stopped x (state_at d used steps o) (λ t. run set ev p t)) h.by) }
-check_halts e p Halt.Quit h = absurd h.by
-check_halts e p Halt.Closed h = absurd h.by
 check_halts e p Halt.NoMemory h = record { by = λ steps o. tt }
 
 -- ---- after the question
@@ -97,7 +95,12 @@ renew_passes set f old v {d = d} {used = used} h =
 pub falls_ended : (r : Result Move Halt) (before : ℕ) (after : Option Tree → ℕ) → Falls r 0 (λ v. 0) → Falls r before after
 falls_ended (Ok (Move.Ask e turn)) before after h = λ v. absurd (omega (arith, h v))
 falls_ended (Ok (Move.Within ls e turn)) before after h = λ v. absurd (omega (arith, h v))
+falls_ended (Ok (Move.Catch e)) before after h = λ v. absurd (omega (arith, h v))
+falls_ended (Ok (Move.Section locks e)) before after h = λ v. absurd (omega (arith, h v))
+falls_ended (Ok (Move.Call request)) before after h = λ v. absurd (omega (arith, h v))
 falls_ended (Ok Move.Turn) before after h = λ v. absurd (omega (arith, h v))
 falls_ended (Ok (Move.Done e)) before after h = tt
 falls_ended (Ok Move.Stays) before after h = tt
+falls_ended (Ok (Move.Throw e)) before after h = tt
+falls_ended (Ok Move.Quit) before after h = tt
 falls_ended (Err h) before after e = tt

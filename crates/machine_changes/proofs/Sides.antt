@@ -15,14 +15,14 @@ use Rattle.expr_tree.specs.declared.attrs.Attrs.{Attrs}
 use Rattle.machine_changes.specs.declared.assignment.Assignment.{Assignment}
 use Rattle.machine_changes.specs.declared.assignment.Phase.{Phase}
 use Rattle.machine_changes.specs.declared.elements.Elements.{Elements}
-use Rattle.machine_changes.specs.declared.left_call.Left.{Left}
+use Rattle.machine_changes.specs.declared.left_call.LeftSide.{LeftSide}
 use Rattle.machine_changes.specs.Assigning.{assembled, attributes_of_head, gone_on, headed_by, left_assignment, left_phase}
 use Rattle.machine_changes.proofs.Going.{Leads, onward, same_program}
 
-pub evaluated_goes : {set : Setting} {p : (Tree → Prog) → Prog} {l : Tree} (k : Tree → Prog) {d : Definitions} {used : Bool} → Evaluates set p (Ok (Left.Whole l)) → Leads set (p k) d used (k l) d used
+pub evaluated_goes : {set : Setting} {p : (Tree → Prog) → Prog} {l : Tree} (k : Tree → Prog) {d : Definitions} {used : Bool} → Evaluates set p (Ok (LeftSide.Whole l)) → Leads set (p k) d used (k l) d used
 evaluated_goes k {d = d} {used = used} h = record { by = λ ev steps o. h.by k ev (state_at d used steps o) }
 
-pub large_goes : {set : Setting} {p : (Tree → Prog) → Prog} {e : Tree} (k : Tree → Prog) {d : Definitions} {used : Bool} (h : Evaluates set p (Ok (Left.Large e))) → Leads set (p k) d used (k h.by.0) d used
+pub large_goes : {set : Setting} {p : (Tree → Prog) → Prog} {e : Tree} (k : Tree → Prog) {d : Definitions} {used : Bool} (h : Evaluates set p (Ok (LeftSide.Large e))) → Leads set (p k) d used (k h.by.0) d used
 large_goes k {d = d} {used = used} h = record { by = λ ev steps o. h.by.2 k ev (state_at d used steps o) }
 
 -- ---- the attributes of the head
@@ -44,9 +44,14 @@ head_asks set head items a k q e h =
 pub falls_within : (r : Result Move Halt) (a b : ℕ) (after : Option Tree → ℕ) → a ≤ b → Falls r a after → Falls r b after
 falls_within (Ok (Move.Ask e turn)) a b after h f = λ v. omega (arith, h, f v)
 falls_within (Ok (Move.Within ls e turn)) a b after h f = λ v. omega (arith, h, f v)
+falls_within (Ok (Move.Catch e)) a b after h f = λ v. omega (arith, h, f v)
+falls_within (Ok (Move.Section locks e)) a b after h f = λ v. omega (arith, h, f v)
+falls_within (Ok (Move.Call request)) a b after h f = λ v. omega (arith, h, f v)
 falls_within (Ok Move.Turn) a b after h f = λ v. omega (arith, h, f v)
 falls_within (Ok (Move.Done e)) a b after h f = tt
 falls_within (Ok Move.Stays) a b after h f = tt
+falls_within (Ok (Move.Throw e)) a b after h f = tt
+falls_within (Ok Move.Quit) a b after h f = tt
 falls_within (Err x) a b after h f = tt
 
 abbrev pub is_atom : Tree → Bool

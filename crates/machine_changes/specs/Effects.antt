@@ -13,7 +13,7 @@ use Rattle.evaluation_steps.specs.declared.Halt.{Halt}
 use Rattle.semantics.specs.Program.{Prog, Mode, Item}
 use Rattle.semantics.specs.Play.{Setting, Evaluator, State, Over, Stopped, run}
 use Rattle.machine_steps.specs.Steps.{state_at}
-use Rattle.machine_changes.specs.declared.left_call.Left.{Left}
+use Rattle.machine_changes.specs.declared.left_call.LeftSide.{LeftSide}
 use Rattle.machine_changes.specs.Larger.{Replaces}
 
 abbrev pub is_refused : Mode → Bool → Bool
@@ -25,13 +25,11 @@ pub record Assigned (set : Setting) (form : Form) (left right : Tree) (d : Defin
       → run set ev (assign set.names form left right p) (state_at d used steps open_section)
       ≡ run set ev (elim done [ true ↦ p | false ↦ failed set.names ]) (state_at d' used' steps open_section)
 
-abbrev pub EvaluatesBy : Setting → ((Tree → Prog) → Prog) → Result Left Halt → Type 0
-EvaluatesBy set p (Ok (Left.Whole l)) = (k : Tree → Prog) (ev : Evaluator) (st : State) → run set ev (p k) st ≡ run set ev (k l) st
-EvaluatesBy set p (Ok (Left.Large e)) = (l : Tree) × Replaces set.names e l × ((k : Tree → Prog) (ev : Evaluator) (st : State) → run set ev (p k) st ≡ run set ev (k l) st)
+abbrev pub EvaluatesBy : Setting → ((Tree → Prog) → Prog) → Result LeftSide Halt → Type 0
+EvaluatesBy set p (Ok (LeftSide.Whole l)) = (k : Tree → Prog) (ev : Evaluator) (st : State) → run set ev (p k) st ≡ run set ev (k l) st
+EvaluatesBy set p (Ok (LeftSide.Large e)) = (l : Tree) × Replaces set.names e l × ((k : Tree → Prog) (ev : Evaluator) (st : State) → run set ev (p k) st ≡ run set ev (k l) st)
 EvaluatesBy set p (Err (Halt.Stopped c)) = (k : Tree → Prog) (ev : Evaluator) (st : State) → run set ev (p k) st ≡ Over (Stopped c) st
-EvaluatesBy set p (Err Halt.Quit) = ⊥
-EvaluatesBy set p (Err Halt.Closed) = ⊥
 EvaluatesBy set p (Err Halt.NoMemory) = Unit {0}
 
-pub record Evaluates (set : Setting) (p : (Tree → Prog) → Prog) (r : Result Left Halt) : Type 0 where
+pub record Evaluates (set : Setting) (p : (Tree → Prog) → Prog) (r : Result LeftSide Halt) : Type 0 where
   pub by : EvaluatesBy set p r

@@ -6,5 +6,5 @@ pub mod Renewing
 pub mod Unsetting
 pub mod Larger
 pub mod Assigning
-pub mod Left
+pub mod ChangeLeft
 pub mod Effects

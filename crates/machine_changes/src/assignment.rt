@@ -4,11 +4,11 @@ ghost use Rattle.expr_tree.specs.Tree.{Tree};
 ghost use Rattle.semantics.specs.Changes as changes;
 ghost use Rattle.semantics.specs.Program.{Prog};
 ghost use Rattle.builtin_names.specs.Attributes.{attributes_in};
-ghost use Rattle.builtin_names.specs.Named.{HasBuiltins, names_in};
+ghost use Rattle.builtin_names.specs.Named.{names_in};
 ghost use Rattle.machine_steps.specs.Setup.{setting_of};
 ghost use Rattle.machine_steps.specs.Steps.{Falls, Starts, Stepped};
 ghost use Rattle.machine_changes.specs.Larger.{Replaces};
-ghost use Rattle.machine_changes.specs.Left.{left};
+ghost use Rattle.machine_changes.specs.ChangeLeft.{left};
 ghost use Rattle.machine_changes.specs.declared.assignment.Phase.{Phase};
 ghost use Rattle.machine_changes.specs.declared.change.Change.{Change};
 ghost use Rattle.machine_changes.specs.Assigning.{asked_in, assembled, assigned, attributes_of_head, begun, form_row, headed_by, left_assignment, left_phase, of_form, of_tag, of_tagged, reached, tag_form};
@@ -17,17 +17,16 @@ use crate::assign::{asks_right, assign_or_fail};
 use crate::change::{Change, done_with};
 use crate::elements::Elements;
 use crate::large::unset_large;
-use crate::left_call::{Left, evaluated};
+use crate::left_call::{LeftSide, evaluated};
 use crate::shapes::symbol_in;
 use crate::unset::unset;
-use builtin_names::name;
+use builtin_names::{Vocabulary, name, rows_are_names};
 use evaluation_steps::Halt;
 use expr_tree::{Attrs, Expr, Node, Sym};
 use frames_control::Stack;
 use item_list::Items;
 use kernel_defs::{Defs, Form};
 use machine_steps::{Move, Scene};
-use name_table::Names;
 use semantics::Builtin;
 use std::alloc::{AllocError, Global};
 use std::mem;
@@ -152,8 +151,8 @@ impl Assignment {
     {
         match evaluated(scene, elements) {
             Err(halt) => Err(halt),
-            Ok(Left::Whole(left)) => self.reach(scene, defs, used, left),
-            Ok(Left::Large(list)) => self.reach_large(scene, defs, used, list),
+            Ok(LeftSide::Whole(left)) => self.reach(scene, defs, used, left),
+            Ok(LeftSide::Large(list)) => self.reach_large(scene, defs, used, list),
         }
     }
 
@@ -189,6 +188,7 @@ impl Assignment {
         ensures stepped { (l : Tree) → Replaces (names_in scene.now.names.now) list l → (stay : Prog) → Stepped (setting_of scene.now) (reached (names_in scene.now.names.now) self.old.goal l) stay defs.old used.old result (left_assignment (names_in scene.now.names.now) self.new) defs.new used.new }
         ensures falls { Falls result 1 (λ answer. asked_in self.new.phase) }
     {
+        rows_are_names(scene.names);
         match &self.goal {
             Goal::Assign(_, _) => self.reach(scene, defs, used, list),
             Goal::Unset => done_with(unset_large(scene, defs, used, &list)),
@@ -271,7 +271,7 @@ fn begun_with(goal: Goal, left: Expr) -> Change
 /// The machine of an assignment with a left side and a right side.
 fn of_sides(
     alloc: Global,
-    names: &Names,
+    names: &Vocabulary,
     form: Form,
     items: &[Expr],
 ) -> Result<Option<Change>, AllocError>
@@ -298,7 +298,7 @@ fn tag_form(delayed: bool, tag: Sym) -> Form
 /// The machine of an assignment with a tag, a left side and a right side.
 fn of_tagged(
     alloc: Global,
-    names: &Names,
+    names: &Vocabulary,
     delayed: bool,
     items: &[Expr],
 ) -> Result<Option<Change>, AllocError>
@@ -320,7 +320,7 @@ fn of_tagged(
 /// The machine of one of the forms without a tag.
 pub(crate) fn of_form(
     alloc: Global,
-    names: &Names,
+    names: &Vocabulary,
     form: Form,
     items: &[Expr],
 ) -> Result<Option<Change>, AllocError>
@@ -332,7 +332,7 @@ pub(crate) fn of_form(
 /// The machine of an assignment with a tag, delayed or not.
 pub(crate) fn of_tag(
     alloc: Global,
-    names: &Names,
+    names: &Vocabulary,
     delayed: bool,
     items: &[Expr],
 ) -> Result<Option<Change>, AllocError>
@@ -344,7 +344,7 @@ pub(crate) fn of_tag(
 /// The machine of Unset.
 pub(crate) fn of_unset(
     alloc: Global,
-    names: &Names,
+    names: &Vocabulary,
     items: &[Expr],
 ) -> Result<Option<Change>, AllocError>
     ensures { Starts (left (names_in names.now)) (λ stay. changes.unset (names_in names.now) stay items.now) result }

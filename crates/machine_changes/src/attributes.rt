@@ -10,20 +10,19 @@ ghost use Rattle.semantics.specs.declared.builtin.Builtin.{Builtin};
 ghost use Rattle.semantics.specs.Program.{Prog, Done};
 ghost use Rattle.semantics.specs.Steps.{ordered};
 ghost use Rattle.builtin_names.specs.Attributes.{attributes_in, where_set};
-ghost use Rattle.builtin_names.specs.Named.{HasBuiltins, names_in};
+ghost use Rattle.builtin_names.specs.Named.{names_in};
 ghost use Rattle.machine_steps.specs.Setup.{setting_of};
 ghost use Rattle.machine_steps.specs.Steps.{Stepped};
 ghost use Rattle.machine_changes.specs.Named.{named_as};
 ghost use Rattle.machine_changes.specs.Results.{done_with};
 
 use attr_steps::order;
-use builtin_names::{items_under, make, name, role_of};
+use builtin_names::{Vocabulary, items_under, make, name, role_of};
 use evaluation_steps::{Halt, stop_for};
 use expr_tree::{Attrs, Built, Expr, Exprs, Node, Sym};
 use item_list::Items;
 use kernel_defs::Defs;
 use machine_steps::Scene;
-use name_table::Names;
 use semantics::Builtin;
 use std::alloc::{AllocError, Global};
 
@@ -113,8 +112,7 @@ fn is_attribute(row: Builtin) -> bool
         || is_same(row, Builtin::Protected)
 }
 
-fn attribute_name(names: &Names, e: &Expr) -> Option<Builtin>
-    requires { HasBuiltins names.now }
+fn attribute_name(names: &Vocabulary, e: &Expr) -> Option<Builtin>
     ensures { result ≡ changes.attribute_name (names_in names.now) e.now }
 {
     let Node::Symbol(symbol) = e.node() else {
@@ -126,10 +124,9 @@ fn attribute_name(names: &Names, e: &Expr) -> Option<Builtin>
 
 fn attribute_names(
     alloc: Global,
-    names: &Names,
+    names: &Vocabulary,
     items: &[Expr],
 ) -> Result<Option<Items<Builtin>>, AllocError>
-    requires { HasBuiltins names.now }
     ensures { IfOk result (λ r. named_as r ≡ changes.attribute_names (names_in names.now) items.now) }
 {
     let mut found = Items::new(alloc);
@@ -145,10 +142,9 @@ fn attribute_names(
 /// The attributes that a name or a `List` of names stands for.
 pub(crate) fn named_attributes(
     alloc: Global,
-    names: &Names,
+    names: &Vocabulary,
     e: &Expr,
 ) -> Result<Option<Items<Builtin>>, AllocError>
-    requires { HasBuiltins names.now }
     ensures { IfOk result (λ r. named_as r ≡ changes.named_attributes (names_in names.now) e.now) }
 {
     match items_under(names, Builtin::List, e) {
@@ -164,8 +160,12 @@ pub(crate) fn named_attributes(
     }
 }
 
-fn push_where(set: bool, row: Builtin, names: &Names, told: &mut Exprs) -> Result<(), AllocError>
-    requires { HasBuiltins names.now }
+fn push_where(
+    set: bool,
+    row: Builtin,
+    names: &Vocabulary,
+    told: &mut Exprs,
+) -> Result<(), AllocError>
     ensures { OnOk result (told.new ≡ told.old ++ map (n.name (names_in names.now)) (where_set set row [])) }
 {
     if set {
@@ -175,8 +175,7 @@ fn push_where(set: bool, row: Builtin, names: &Names, told: &mut Exprs) -> Resul
 }
 
 /// The names of attributes.
-fn names_of(alloc: Global, names: &Names, attrs: Attrs) -> Result<Exprs, AllocError>
-    requires { HasBuiltins names.now }
+fn names_of(alloc: Global, names: &Vocabulary, attrs: Attrs) -> Result<Exprs, AllocError>
     ensures { IfOk result (λ r. r ≡ map (n.name (names_in names.now)) (attributes_in attrs)) }
 {
     let mut told = Items::new(alloc);

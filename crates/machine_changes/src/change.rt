@@ -2,21 +2,21 @@
 ghost use Rattle.std.specs.Prelude.{◌≡◌, IfSome, is_some};
 ghost use Rattle.semantics.specs.Program.{Prog};
 ghost use Rattle.semantics.specs.Table as t;
-ghost use Rattle.builtin_names.specs.Named.{HasBuiltins, names_in};
+ghost use Rattle.builtin_names.specs.Named.{names_in};
 ghost use Rattle.machine_steps.specs.Setup.{setting_of};
 ghost use Rattle.machine_steps.specs.Steps.{Falls, Starts, Stepped};
 ghost use Rattle.row_kinds.specs.Kinds.{is_change};
-ghost use Rattle.machine_changes.specs.Left.{left, questions};
+ghost use Rattle.machine_changes.specs.ChangeLeft.{left, questions};
 ghost use Rattle.machine_changes.specs.Results.{done_with};
 
 use crate::assignment::{Assignment, of_form, of_tag, of_unset};
 use crate::renewal::{Renewal, of_integer, of_negated, of_operand};
 use crate::single::{Deed, Single, of_attributes, of_symbol};
+use builtin_names::Vocabulary;
 use evaluation_steps::Halt;
 use expr_tree::Expr;
 use kernel_defs::{Defs, Form};
 use machine_steps::{Move, Scene};
-use name_table::Names;
 use semantics::Builtin;
 use std::alloc::{AllocError, Global};
 
@@ -33,11 +33,10 @@ impl Change {
     #[tactic(auto, unfolding(semantics::specs::Table::row))]
     pub fn start(
         alloc: Global,
-        names: &Names,
+        names: &Vocabulary,
         row: Builtin,
         items: &[Expr],
     ) -> Option<Result<Option<Change>, AllocError>>
-        requires { HasBuiltins names.now }
         ensures known { is_some result ≡ is_change row }
         ensures starts { IfSome result (λ r. Starts (left (names_in names.now)) (λ stay. t.row (names_in names.now) row stay items.now) r) }
     {

@@ -4,13 +4,13 @@ ghost use Rattle.expr_tree.specs.Tree.{Tree};
 ghost use Rattle.semantics.specs.Program.{Prog, Ask};
 ghost use Rattle.semantics.specs.Assemble.{ask_items, ask_rest};
 ghost use Rattle.builtin_names.specs.Attributes.{attributes_in};
-ghost use Rattle.builtin_names.specs.Named.{HasBuiltins, names_in};
+ghost use Rattle.builtin_names.specs.Named.{names_in};
 
 use attr_steps::{holds_first, holds_rest, is_asked};
+use builtin_names::Vocabulary;
 use expr_tree::{Attrs, Expr, Exprs};
 use frames_control::Stack;
 use item_list::Items;
-use name_table::Names;
 use std::alloc::{AllocError, Global};
 
 /// The head with its attributes, the elements that are left, and those before them, evaluated or held. After a question the answer is
@@ -25,8 +25,7 @@ pub struct Elements {
 
 impl Elements {
     /// Goes on to the next element that is evaluated, if there is one.
-    pub(crate) fn next(&mut self, names: &Names) -> Result<Option<Expr>, AllocError>
-        requires { HasBuiltins names.now }
+    pub(crate) fn next(&mut self, names: &Vocabulary) -> Result<Option<Expr>, AllocError>
         ensures head { self.new.head ≡ self.old.head }
         ensures attrs { self.new.attrs ≡ self.old.attrs }
         ensures asked { IfOk result (λ o. (k : List Tree → Prog) → MatchOption o
@@ -45,8 +44,7 @@ impl Elements {
     }
 
     /// The same from the first element on, before which nothing stands.
-    pub(crate) fn first(&mut self, names: &Names) -> Result<Option<Expr>, AllocError>
-        requires names { HasBuiltins names.now }
+    pub(crate) fn first(&mut self, names: &Vocabulary) -> Result<Option<Expr>, AllocError>
         requires first { self.old.done ≡ [] }
         ensures head { self.new.head ≡ self.old.head }
         ensures attrs { self.new.attrs ≡ self.old.attrs }

@@ -14,22 +14,28 @@ ghost use Rattle.machine_changes.specs.Unsetting.{unset_at};
 
 use crate::effects::{any_shared, note_use};
 use crate::unset::holders;
-use builtin_names::name;
+use builtin_names::{name, rows_are_names};
 use evaluation_steps::Halt;
 use expr_tree::{Expr, Syms};
 use kernel_defs::Defs;
 use machine_steps::Scene;
-use rule_store::Rule;
+use rule_store::{Rule, Rules};
 use semantics::Builtin;
 
 /// No rule has a left side that is larger or deeper than any expression, since it is one.
-fn are_small(rules: &[Rule])
+fn all_small(rules: &[Rule])
     ensures { (l : Tree) → IsLarge l → has_left l rules.now ≡ false }
 {
     for rule in rules {
         let _nodes = rule.left().size();
         let _levels = rule.left().depth();
     }
+}
+
+fn are_small(rules: &Rules)
+    ensures { (l : Tree) → IsLarge l → has_left l rules.now ≡ false }
+{
+    all_small(rules.as_slice());
 }
 
 /// No symbol holds something with a left side that is larger or deeper than any expression.
@@ -52,6 +58,7 @@ pub(crate) fn unset_large(
 ) -> Result<Expr, Halt>
     ensures { (l : Tree) → Replaces (names_in scene.now.names.now) list.now l → (stay : Prog) (rest : Option Tree → Prog) → Stepped (setting_of scene.now) (unset_at (names_in scene.now.names.now) l) stay defs.now used.old (done_with result) rest defs.now used.new }
 {
+    rows_are_names(scene.names);
     let symbols = holders(scene.alloc, scene.names, list)?;
     hold_none(scene, defs, &symbols);
     let shared = any_shared(scene, defs, &symbols);

@@ -26,7 +26,7 @@ use std::alloc::{AllocError, Global};
 
 /// A left side that is evaluated: an expression; or a List larger or deeper than any expression, with the List that stands in its place.
 #[derive(Drop)]
-pub(crate) enum Left {
+pub(crate) enum LeftSide {
     Whole(Expr),
     Large(Expr),
 }
@@ -79,7 +79,7 @@ fn list_of(scene: &Scene, head: Sym) -> Result<Expr, AllocError>
 }
 
 /// The List of the calls of a symbol to which a left side is threaded.
-fn listed(scene: &Scene, head: Sym, each: Exprs) -> Result<Left, Halt>
+fn listed(scene: &Scene, head: Sym, each: Exprs) -> Result<LeftSide, Halt>
     requires { (each ≡ [] → ⊥) → AreUnder head each }
     ensures { Evaluates (setting_of scene.now) (λ k. a.check_all each (k (n.make (names_in scene.now.names.now) Builtin.List each))) result }
 {
@@ -87,15 +87,15 @@ fn listed(scene: &Scene, head: Sym, each: Exprs) -> Result<Left, Halt>
         return Err(Halt::Stopped(stop));
     }
     match make(scene.alloc, scene.names, Builtin::List, each) {
-        Ok(list) => Ok(Left::Whole(list)),
+        Ok(list) => Ok(LeftSide::Whole(list)),
         Err(Built::NoMemory) => Err(Halt::NoMemory),
-        Err(Built::TooLarge) => Ok(Left::Large(list_of(scene, head)?)),
-        Err(Built::TooDeep(_)) => Ok(Left::Large(list_of(scene, head)?)),
+        Err(Built::TooLarge) => Ok(LeftSide::Large(list_of(scene, head)?)),
+        Err(Built::TooDeep(_)) => Ok(LeftSide::Large(list_of(scene, head)?)),
     }
 }
 
 /// What flattening, threading and sorting leave.
-fn settled(scene: &Scene, head: Expr, attrs: &Attrs, items: Exprs) -> Result<Left, Halt>
+fn settled(scene: &Scene, head: Expr, attrs: &Attrs, items: Exprs) -> Result<LeftSide, Halt>
     requires small { size (call head items) ≤ 4000000 }
     requires shallow { depth (call head items) ≤ 512 }
     ensures { Evaluates (setting_of scene.now) (λ k. settled (names_in scene.now.names.now) head (attributes_in attrs.now) k items) result }
@@ -106,12 +106,12 @@ fn settled(scene: &Scene, head: Expr, attrs: &Attrs, items: Exprs) -> Result<Lef
             Some(symbol) => listed(scene, symbol, each),
             None => unreachable!(),
         },
-        None => Ok(Left::Whole(sorted_call(scene.alloc, head, attrs, items)?)),
+        None => Ok(LeftSide::Whole(sorted_call(scene.alloc, head, attrs, items)?)),
     }
 }
 
 /// The left side after all steps that follow its elements.
-pub(crate) fn evaluated(scene: &Scene, elements: Elements) -> Result<Left, Halt>
+pub(crate) fn evaluated(scene: &Scene, elements: Elements) -> Result<LeftSide, Halt>
     ensures { Evaluates (setting_of scene.now) (λ k. assembled (names_in scene.now.names.now) elements.head (attributes_in elements.attrs) k elements.done) result }
 {
     let Elements {

@@ -12,19 +12,18 @@ ghost use Rattle.machine_steps.specs.Steps.{Falls, Starts, Stepped};
 ghost use Rattle.machine_changes.specs.declared.renewal.Operand.{Operand};
 ghost use Rattle.machine_changes.specs.declared.change.Change.{Change};
 ghost use Rattle.machine_changes.specs.Results.{done_with};
-ghost use Rattle.machine_changes.specs.Left.{asked_once, left};
+ghost use Rattle.machine_changes.specs.ChangeLeft.{asked_once, left};
 ghost use Rattle.machine_changes.specs.Renewing.{assigned, given_by, left_renewal, next_of, operand_of, put, renewed};
 
 use crate::change::{Change, done_with};
 use crate::effects::{is_refused, is_shared, note_use};
 use crate::shapes::symbol_in;
-use builtin_names::{make, name, symbol_for};
+use builtin_names::{Vocabulary, make, name, symbol_for};
 use evaluation_steps::{Halt, checked};
 use expr_tree::{Built, Expr, Exprs, Limits, Stop, Sym};
 use item_list::Items;
 use kernel_defs::Defs;
 use machine_steps::{Move, Scene};
-use name_table::Names;
 use semantics::Builtin;
 use std::alloc::{AllocError, Global};
 
@@ -209,7 +208,7 @@ fn renewing(symbol: Sym, row: Builtin, operand: Operand) -> Change
 
 /// The machine of a row that adds a number.
 pub(crate) fn of_integer(
-    names: &Names,
+    names: &Vocabulary,
     number: i128,
     gives_old: bool,
     items: &[Expr],
@@ -234,7 +233,7 @@ pub(crate) fn of_integer(
 /// The machine of a row that combines the old value with another.
 pub(crate) fn of_operand(
     alloc: Global,
-    names: &Names,
+    names: &Vocabulary,
     row: Builtin,
     items: &[Expr],
 ) -> Result<Option<Change>, AllocError>
@@ -255,7 +254,7 @@ pub(crate) fn of_operand(
 /// The machine of SubtractFrom.
 pub(crate) fn of_negated(
     alloc: Global,
-    names: &Names,
+    names: &Vocabulary,
     items: &[Expr],
 ) -> Result<Option<Change>, AllocError>
     ensures { Starts (left (names_in names.now)) (λ stay. changes.subtract_from (names_in names.now) stay items.now) result }

@@ -6,10 +6,10 @@ ghost use Rattle.semantics.specs.Definitions as d;
 ghost use Rattle.semantics.specs.declared.builtin.Builtin.{Builtin};
 ghost use Rattle.semantics.specs.Control.{null};
 ghost use Rattle.semantics.specs.Program.{Prog, Put};
-ghost use Rattle.builtin_names.specs.Named.{HasBuiltins, names_in};
+ghost use Rattle.builtin_names.specs.Named.{names_in};
 ghost use Rattle.machine_steps.specs.Setup.{setting_of};
 ghost use Rattle.machine_steps.specs.Steps.{Starts, Stepped};
-ghost use Rattle.machine_changes.specs.Left.{left};
+ghost use Rattle.machine_changes.specs.ChangeLeft.{left};
 ghost use Rattle.machine_changes.specs.Single.{deed_on, deed_with, done_to, fails_for, row_of};
 ghost use Rattle.machine_changes.specs.Results.{done_with};
 
@@ -17,13 +17,12 @@ use crate::attributes::{attributes_told, named_attributes, with_those, without_t
 use crate::change::Change;
 use crate::effects::{is_shared, note_use};
 use crate::shapes::symbol_in;
-use builtin_names::name;
+use builtin_names::{Vocabulary, name};
 use evaluation_steps::Halt;
 use expr_tree::{Expr, Sym};
 use item_list::Items;
 use kernel_defs::Defs;
 use machine_steps::Scene;
-use name_table::Names;
 use semantics::Builtin;
 use std::alloc::{AllocError, Global};
 
@@ -177,7 +176,7 @@ fn remove(scene: &Scene, defs: &mut Defs, symbol: Sym, old: &Items<Builtin>) -> 
 
 /// The machine of a row that has a symbol and nothing else.
 pub(crate) fn of_symbol(
-    names: &Names,
+    names: &Vocabulary,
     deed: Deed,
     items: &[Expr],
 ) -> Result<Option<Change>, AllocError>
@@ -195,11 +194,10 @@ pub(crate) fn of_symbol(
 /// The machine of a row that gives a symbol attributes, or takes them.
 pub(crate) fn of_attributes(
     alloc: Global,
-    names: &Names,
+    names: &Vocabulary,
     adds: bool,
     items: &[Expr],
 ) -> Result<Option<Change>, AllocError>
-    requires { HasBuiltins names.now }
     ensures { Starts (left (names_in names.now)) (λ stay. changes.change_attributes (names_in names.now) (elim adds [ true ↦ changes.with_attributes | false ↦ changes.without_attributes ]) stay items.now) result }
 {
     let [first, second] = items else {

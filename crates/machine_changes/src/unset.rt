@@ -1,5 +1,5 @@
 //! What a left side holds, taken away.
-ghost use Rattle.std.specs.Prelude.{◌≡◌, [], IfOk, Option};
+ghost use Rattle.std.specs.Prelude.{◌≡◌, [], IfOk, OnOk, Option};
 ghost use Rattle.std.specs.List.{filter};
 ghost use Rattle.expr_tree.specs.Shapes as shapes;
 ghost use Rattle.expr_tree.specs.Tree.{Tree};
@@ -7,7 +7,7 @@ ghost use Rattle.semantics.specs.Assign as assign;
 ghost use Rattle.semantics.specs.Changes as changes;
 ghost use Rattle.semantics.specs.Definitions.{definition_of};
 ghost use Rattle.semantics.specs.Program.{Prog};
-ghost use Rattle.builtin_names.specs.Named.{HasBuiltins, names_in};
+ghost use Rattle.builtin_names.specs.Named.{names_in};
 ghost use Rattle.machine_steps.specs.Setup.{setting_of};
 ghost use Rattle.machine_steps.specs.Steps.{Stepped};
 ghost use Rattle.kernel_defs.proofs.Runs.{seen_all};
@@ -15,13 +15,12 @@ ghost use Rattle.machine_changes.specs.Results.{done_with};
 ghost use Rattle.machine_changes.specs.Unsetting.{is_kept, taken_away, unset_at};
 
 use crate::effects::{any_shared, is_refused};
-use builtin_names::{items_of, name};
+use builtin_names::{Vocabulary, items_of, name};
 use evaluation_steps::Halt;
 use expr_tree::{Expr, Syms, symbol_of};
 use item_list::Items;
 use kernel_defs::{Defs, inner, item_symbols};
 use machine_steps::Scene;
-use name_table::Names;
 use semantics::Builtin;
 use std::alloc::{AllocError, Global};
 
@@ -40,8 +39,7 @@ fn head_symbol(alloc: Global, e: &Expr) -> Result<Syms, AllocError>
 }
 
 /// The symbols that may hold something with a left side, each once.
-pub(crate) fn holders(alloc: Global, names: &Names, left: &Expr) -> Result<Syms, AllocError>
-    requires { HasBuiltins names.now }
+pub(crate) fn holders(alloc: Global, names: &Vocabulary, left: &Expr) -> Result<Syms, AllocError>
     ensures { IfOk result (λ ss. ss ≡ changes.holders (names_in names.now) left.now) }
 {
     let left = inner(names, left);
@@ -87,12 +85,13 @@ fn is_kept(scene: &Scene, defs: &Defs, symbols: &Syms) -> bool
 }
 
 /// Takes away what these symbols hold with a left side.
-fn take_away(scene: &Scene, defs: &mut Defs, left: &Expr, symbols: &Syms)
-    ensures { defs.new ≡ taken_away (names_in scene.now.names.now) left.now symbols.now defs.old }
+fn take_away(scene: &Scene, defs: &mut Defs, left: &Expr, symbols: &Syms) -> Result<(), AllocError>
+    ensures { OnOk result (defs.new ≡ taken_away (names_in scene.now.names.now) left.now symbols.now defs.old) }
 {
     for symbol in symbols.as_slice() {
-        defs.take_away(scene.names, *symbol, left);
+        defs.take_away(scene.alloc, scene.names, *symbol, left)?;
     }
+    Ok(())
 }
 
 /// All of Unset, once its left side is evaluated. All symbols are looked at before the first of them changes.
@@ -113,6 +112,6 @@ pub(crate) fn unset(
     if is_kept(scene, defs, &held) {
         return Ok(name(scene.names, Builtin::Failed));
     }
-    take_away(scene, defs, left, &held);
+    take_away(scene, defs, left, &held)?;
     Ok(name(scene.names, Builtin::Null))
 }

@@ -7,7 +7,7 @@ use Rattle.semantics.specs.Names.{Names}
 use Rattle.semantics.specs.Program.{Prog}
 use Rattle.semantics.specs.Control.{Values, up_to, unless_zero}
 use Rattle.machine_iterators.specs.declared.parts.Known.{Known}
-use Rattle.machine_iterators.specs.Asked.{numbered, bound, and_then, asks, answered}
+use Rattle.machine_iterators.specs.PartsAsked.{numbered, bound, and_then, asks, answered}
 
 pub bound_number : (names : Names) (i : Option Sym) (z : ℤ) (k : Values → Prog) (stay : Prog) → bound names i (integer z) k stay ≡ k (up_to z)
 bound_number names None z k stay = refl

@@ -9,7 +9,7 @@ use Rattle.semantics.specs.Names.{Names}
 use Rattle.semantics.specs.Program.{Prog}
 use Rattle.semantics.specs.Control.{Values, iterator_parts}
 use Rattle.machine_iterators.specs.declared.parts.Known.{Known}
-use Rattle.machine_iterators.specs.Asked.{opened, asks}
+use Rattle.machine_iterators.specs.PartsAsked.{opened, asks}
 
 after_symbol : (i : Sym) (es : List Tree) → 0 < length es → length es ≤ 3 → (names : Names) (k : Option Sym → Values → Prog) (stay : Prog) →
     iterator_parts names (symbol i ∷ es) (λ i values parts. k i values) stay ≡ opened names (Some i) (asks names (Some i) Known.Nothing es (k (Some i)) stay)

@@ -20,8 +20,6 @@ stepped_as {set = set} {stay = stay} {d = d} {d' = d'} {used = used} {used' = us
 pub not_made : (t : Tree) (h : Halt) {set : Setting} {stay : Prog} {d : Definitions} {used : Bool} {rest : Option Tree → Prog} → HaltsFor set.limits t h →
     Stepped set (Done t) stay d used (Err h) rest d used
 not_made t (Halt.Stopped c) f = record { by = λ steps locks. inr (t, (λ ev. refl), f.by) }
-not_made t Halt.Quit f = absurd f.by
-not_made t Halt.Closed f = absurd f.by
 not_made t Halt.NoMemory f = record { by = λ steps locks. tt }
 
 falls_more : (m n : ℕ) → m ≤ n → (after : Option Tree → ℕ) (v : Option Tree) → after v < m → after v < n
@@ -30,7 +28,12 @@ falls_more m n le after v h = omega (arith, h)
 pub falls_from : (r : Result Move Halt) (m n : ℕ) (after : Option Tree → ℕ) → m ≤ n → Falls r m after → Falls r n after
 falls_from (Ok (Move.Ask e turn)) m n after le f = λ v. falls_more m n le after v (f v)
 falls_from (Ok (Move.Within ls e turn)) m n after le f = λ v. falls_more m n le after v (f v)
+falls_from (Ok (Move.Catch e)) m n after le f = λ v. falls_more m n le after v (f v)
+falls_from (Ok (Move.Section locks e)) m n after le f = λ v. falls_more m n le after v (f v)
+falls_from (Ok (Move.Call request)) m n after le f = λ v. falls_more m n le after v (f v)
 falls_from (Ok Move.Turn) m n after le f = λ v. falls_more m n le after v (f v)
 falls_from (Ok (Move.Done e)) m n after le f = tt
 falls_from (Ok Move.Stays) m n after le f = tt
+falls_from (Ok (Move.Throw e)) m n after le f = tt
+falls_from (Ok Move.Quit) m n after le f = tt
 falls_from (Err h) m n after le f = tt

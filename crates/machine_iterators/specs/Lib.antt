@@ -1,5 +1,5 @@
-pub mod Rows
-pub mod Asked
-pub mod Left
+pub mod IterationForms
+pub mod PartsAsked
+pub mod IterationLeft
 pub mod Found
-pub mod Shapes
+pub mod IteratorShapes

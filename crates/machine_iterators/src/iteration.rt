@@ -4,25 +4,24 @@ ghost use Rattle.semantics.specs.Definitions as d;
 ghost use Rattle.semantics.specs.Program.{Prog};
 ghost use Rattle.semantics.specs.Control.{iterated};
 ghost use Rattle.semantics.specs.Table.{row as row_program};
-ghost use Rattle.builtin_names.specs.Named.{HasBuiltins, names_in};
+ghost use Rattle.builtin_names.specs.Named.{names_in};
 ghost use Rattle.machine_steps.specs.Setup.{setting_of};
 ghost use Rattle.machine_steps.specs.Steps.{Stepped, Starts, Falls};
 ghost use Rattle.row_kinds.specs.Kinds.{is_iteration};
-ghost use Rattle.machine_iterators.specs.Rows.{row_of, finish};
-ghost use Rattle.machine_iterators.specs.Left.{left, left_at, left_going, questions, questions_at, values_in};
-ghost use Rattle.machine_iterators.specs.Shapes.{IsShape};
+ghost use Rattle.machine_iterators.specs.IterationForms.{row_of, finish};
+ghost use Rattle.machine_iterators.specs.IterationLeft.{left, left_at, left_turns, questions, questions_at, values_in};
+ghost use Rattle.machine_iterators.specs.IteratorShapes.{IsShape};
 
-use crate::body::{Body, Form, inner};
-use crate::going::Going;
+use crate::body::{Body, IterationForm, inner_form};
+use crate::iterator_values::IteratorValues;
 use crate::parts::{Found, Known, Parts};
-use crate::walk::Walk;
-use builtin_names::items_under;
+use crate::turns::Turns;
+use builtin_names::{Vocabulary, items_under};
 use evaluation_steps::Halt;
 use expr_tree::{Expr, Node, Sym};
 use frames_control::Stack;
 use kernel_defs::Defs;
 use machine_steps::{Move, Scene};
-use name_table::Names;
 use semantics::Builtin;
 use std::alloc::{AllocError, Global};
 
@@ -30,7 +29,7 @@ use std::alloc::{AllocError, Global};
 #[derive(Drop)]
 pub enum State {
     Asking(Parts),
-    Going(Going),
+    Turns(Turns),
 }
 
 /// A form with an iterator that is being evaluated.
@@ -48,16 +47,21 @@ struct Shape<'a> {
 }
 
 impl State {
-    fn walk(&mut self, scene: &Scene, body: &Body, walk: Walk) -> Result<Move, Halt>
-        ensures stepped { (stay : Prog) (d : d.Definitions) (used : Bool) → Stepped (setting_of scene.now) (left_going (names_in scene.now.names.now) body.now (record { walk = walk; done = [] }) None) stay d used result (left_at (names_in scene.now.names.now) body.now self.new stay) d used }
-        ensures falls { Falls result (length (values_in walk)) (λ _. questions_at self.new) }
+    fn take_turns(
+        &mut self,
+        scene: &Scene,
+        body: &Body,
+        values: IteratorValues,
+    ) -> Result<Move, Halt>
+        ensures stepped { (stay : Prog) (d : d.Definitions) (used : Bool) → Stepped (setting_of scene.now) (left_turns (names_in scene.now.names.now) body.now (record { values = values; done = [] }) None) stay d used result (left_at (names_in scene.now.names.now) body.now self.new stay) d used }
+        ensures falls { Falls result (length (values_in values)) (λ _. questions_at self.new) }
     {
-        let mut going = Going {
-            walk,
+        let mut turns = Turns {
+            values,
             done: Stack::new(scene.alloc),
         };
-        let next = going.step(scene, body, None);
-        *self = State::Going(going);
+        let next = turns.step(scene, body, None);
+        *self = State::Turns(turns);
         next
     }
 
@@ -73,12 +77,12 @@ impl State {
         ensures falls { Falls result (questions_at self.old) (λ _. questions_at self.new) }
     {
         match self {
-            State::Going(going) => going.step(scene, body, answer),
+            State::Turns(turns) => turns.step(scene, body, answer),
             State::Asking(parts) => match answer {
                 None => Ok(parts.open(scene, body, defs, used)),
                 Some(value) => match parts.take(scene, body, value)? {
                     Found::Moves(next) => Ok(next),
-                    Found::Walks(walk) => self.walk(scene, body, walk),
+                    Found::Values(values) => self.take_turns(scene, body, values),
                 },
             },
         }
@@ -109,11 +113,10 @@ fn shape_of(items: &[Expr]) -> Option<Shape<'_>>
 impl Iteration {
     fn start(
         alloc: Global,
-        names: &Names,
-        form: Form,
+        names: &Vocabulary,
+        form: IterationForm,
         items: &[Expr],
     ) -> Result<Option<Iteration>, AllocError>
-        requires names { HasBuiltins names.now }
         ensures { Starts (left (names_in names.now)) (λ stay. iterated (names_in names.now) (row_of form) (finish (names_in names.now) form) stay items.now) result }
     {
         let [body, iterator, more @ ..] = items else {
@@ -126,7 +129,7 @@ impl Iteration {
             return Ok(None);
         };
         let rest = Stack::of(alloc, shape.parts)?;
-        let expression = inner(alloc, names, form, body, more)?;
+        let expression = inner_form(alloc, names, form, body, more)?;
         Ok(Some(Iteration {
             body: Body {
                 form,
@@ -159,18 +162,17 @@ impl Iteration {
 #[tactic(auto, unfolding(semantics::specs::Table::row))]
 pub fn start(
     alloc: Global,
-    names: &Names,
+    names: &Vocabulary,
     row: Builtin,
     items: &[Expr],
 ) -> Option<Result<Option<Iteration>, AllocError>>
-    requires names { HasBuiltins names.now }
     ensures known { is_some result ≡ is_iteration row }
     ensures starts { IfSome result (λ r. Starts (left (names_in names.now)) (λ stay. row_program (names_in names.now) row stay items.now) r) }
 {
     match row {
-        Builtin::Do => Some(Iteration::start(alloc, names, Form::Do, items)),
-        Builtin::Table => Some(Iteration::start(alloc, names, Form::Table, items)),
-        Builtin::Sum => Some(Iteration::start(alloc, names, Form::Sum, items)),
+        Builtin::Do => Some(Iteration::start(alloc, names, IterationForm::Do, items)),
+        Builtin::Table => Some(Iteration::start(alloc, names, IterationForm::Table, items)),
+        Builtin::Sum => Some(Iteration::start(alloc, names, IterationForm::Sum, items)),
         _ => None,
     }
 }

@@ -1,15 +1,15 @@
 //! Do, Table and Sum as one machine: it asks for the parts of the iterator, and then for the body with each value in turn. Integers
-//! are walked by a `Progression`.
+//! come from a `Progression`.
 #![tactic(auto)]
 
 mod body;
-mod going;
 mod iteration;
+mod iterator_values;
 mod parts;
-mod walk;
+mod turns;
 
-pub use body::{Body, Form};
-pub use going::Going;
+pub use body::{Body, IterationForm};
 pub use iteration::{Iteration, State, start};
+pub use iterator_values::IteratorValues;
 pub use parts::{Known, Parts};
-pub use walk::Walk;
+pub use turns::Turns;

@@ -6,23 +6,22 @@ ghost use Rattle.semantics.specs.Definitions as d;
 ghost use Rattle.semantics.specs.Names as n;
 ghost use Rattle.semantics.specs.Program.{Prog};
 ghost use Rattle.semantics.specs.Control.{bound_or_list};
-ghost use Rattle.builtin_names.specs.Named.{HasBuiltins, names_in};
+ghost use Rattle.builtin_names.specs.Named.{names_in};
 ghost use Rattle.machine_steps.specs.Setup.{setting_of};
 ghost use Rattle.machine_steps.specs.Steps.{Stepped, Falls, headed};
-ghost use Rattle.machine_iterators.specs.Asked.{and_then, asks, answered, is_shared, last_part};
-ghost use Rattle.machine_iterators.specs.Left.{goes, left_asking, parts_left};
+ghost use Rattle.machine_iterators.specs.PartsAsked.{and_then, asks, answered, is_shared, last_part};
+ghost use Rattle.machine_iterators.specs.IterationLeft.{goes, left_asking, parts_left};
 ghost use Rattle.machine_iterators.specs.Found.{Finds, Fewer};
 ghost use Rattle.machine_iterators.specs.declared.body.Body.{Body as B};
 
 use crate::body::Body;
-use crate::walk::Walk;
-use builtin_names::{items_under, name};
+use crate::iterator_values::IteratorValues;
+use builtin_names::{Vocabulary, items_under, name};
 use expr_tree::{Expr, Exprs, Node, Sym};
 use frames_control::Stack;
 use int_ops::Progression;
 use kernel_defs::Defs;
 use machine_steps::{Move, Scene};
-use name_table::Names;
 use semantics::Builtin;
 use std::alloc::{AllocError, Global};
 
@@ -57,7 +56,7 @@ pub struct Parts {
 #[derive(Drop)]
 pub(crate) enum Found {
     Moves(Move),
-    Walks(Walk),
+    Values(IteratorValues),
 }
 
 fn is_shared(symbol: Option<Sym>, defs: &Defs) -> bool
@@ -70,26 +69,27 @@ fn is_shared(symbol: Option<Sym>, defs: &Defs) -> bool
 }
 
 /// The values of an iterator whose last part is a number.
-fn numbers(known: Known, last: i128) -> Found
+fn number_values(known: Known, last: i128) -> Found
     ensures found { (names : n.Names) (b : B) (stay : Prog) (rest : Option Tree → Prog) → Finds names b (last_part names b.symbol known (integer last) (goes names b) stay) stay result rest }
     ensures few { (m : ℕ) (after : Option Tree → ℕ) → Fewer result m after }
 {
     match known {
-        Known::Nothing => Found::Walks(Walk::Numbers(Progression::new(1, last, 1))),
-        Known::Start(from) => Found::Walks(Walk::Numbers(Progression::new(from, last, 1))),
+        Known::Nothing => Found::Values(IteratorValues::Numbers(Progression::new(1, last, 1))),
+        Known::Start(from) => Found::Values(IteratorValues::Numbers(Progression::new(
+            from, last, 1,
+        ))),
         Known::Span(from, to) => {
             if last == 0 {
                 Found::Moves(Move::Stays)
             } else {
-                Found::Walks(Walk::Numbers(Progression::new(from, to, last)))
+                Found::Values(IteratorValues::Numbers(Progression::new(from, to, last)))
             }
         }
     }
 }
 
 /// The values of a list under a symbol.
-fn elements(alloc: Global, names: &Names, last: &Expr) -> Result<Found, AllocError>
-    requires names { HasBuiltins names.now }
+fn element_values(alloc: Global, names: &Vocabulary, last: &Expr) -> Result<Found, AllocError>
     requires other { (z : ℤ) → last.now ≡ integer z → ⊥ }
     ensures found { (b : B) (stay : Prog) (rest : Option Tree → Prog) → IfOk result (λ f. Finds (names_in names.now) b (bound_or_list (names_in names.now) last.now (goes (names_in names.now) b) stay) stay f rest) }
     ensures few { (m : ℕ) (after : Option Tree → ℕ) → IfOk result (λ f. Fewer f m after) }
@@ -97,29 +97,28 @@ fn elements(alloc: Global, names: &Names, last: &Expr) -> Result<Found, AllocErr
     match items_under(names, Builtin::List, last) {
         Some(items) => {
             let items = Stack::of(alloc, items.as_slice())?;
-            Ok(Found::Walks(Walk::Elements(items)))
+            Ok(Found::Values(IteratorValues::Elements(items)))
         }
         None => Ok(Found::Moves(Move::Stays)),
     }
 }
 
 /// The values of an iterator by the value of its last part.
-fn last(
+fn last_values(
     alloc: Global,
-    names: &Names,
+    names: &Vocabulary,
     symbol: Option<Sym>,
     known: Known,
     last: &Expr,
 ) -> Result<Found, AllocError>
-    requires names { HasBuiltins names.now }
     ensures found { (b : B) (stay : Prog) (rest : Option Tree → Prog) → b.symbol ≡ symbol → IfOk result (λ f. Finds (names_in names.now) b (last_part (names_in names.now) symbol known last.now (goes (names_in names.now) b) stay) stay f rest) }
     ensures few { (m : ℕ) (after : Option Tree → ℕ) → IfOk result (λ f. Fewer f m after) }
 {
     if let Node::Int(number) = last.node() {
-        return Ok(numbers(known, *number));
+        return Ok(number_values(known, *number));
     }
     match (symbol, known) {
-        (Some(_), Known::Nothing) => elements(alloc, names, last),
+        (Some(_), Known::Nothing) => element_values(alloc, names, last),
         _ => Ok(Found::Moves(Move::Stays)),
     }
 }
@@ -159,7 +158,7 @@ impl Parts {
         ensures fewer { IfOk result (λ f. Fewer f (parts_left self.old) (λ _. parts_left self.new)) }
     {
         if self.rest.is_empty() {
-            return last(scene.alloc, scene.names, body.symbol, self.known, &value);
+            return last_values(scene.alloc, scene.names, body.symbol, self.known, &value);
         }
         match value.node() {
             Node::Int(number) => {

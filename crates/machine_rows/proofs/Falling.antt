@@ -11,8 +11,8 @@ use Rattle.semantics.specs.Program.{Prog, Done, Ask, Within}
 use Rattle.semantics.specs.Scoping.{ask_values, make_all, with_number, renaming, module_form, unless_any_shared}
 use Rattle.evaluation_steps.specs.Moves as m
 use Rattle.evaluation_steps.specs.Moves.{Moved, Shows, same, fitting, turning}
-use Rattle.frames_scope.specs.Left as scope
-use Rattle.frames_scope.specs.Left.{left_asking, ask_each, left_with}
+use Rattle.frames_scope.specs.ScopingLeft as scope
+use Rattle.frames_scope.specs.ScopingLeft.{left_asking, ask_each, left_with}
 use Rattle.frames_scope.specs.Reading.{locals_in}
 use Rattle.frames_scope.specs.declared.block_form.Block.{Block}
 use Rattle.frames_scope.specs.declared.module_form.Module.{Module}
@@ -48,9 +48,14 @@ falls_within {rest = rest} ls e turn g steady v = fewer {rest = rest} turn (With
 pub falls_less : (r : Result Move Halt) (f : Option Tree → ℕ) (m : ℕ) {n : ℕ} → m < n → Falls r m f → Falls r n f
 falls_less (Ok (Move.Ask e turn)) f m less l = λ v. let on = l v in omega (arith, on, less)
 falls_less (Ok (Move.Within ls e turn)) f m less l = λ v. let on = l v in omega (arith, on, less)
+falls_less (Ok (Move.Catch e)) f m less l = λ v. let on = l v in omega (arith, on, less)
+falls_less (Ok (Move.Section locks e)) f m less l = λ v. let on = l v in omega (arith, on, less)
+falls_less (Ok (Move.Call request)) f m less l = λ v. let on = l v in omega (arith, on, less)
 falls_less (Ok Move.Turn) f m less l = λ v. let on = l v in omega (arith, on, less)
 falls_less (Ok (Move.Done e)) f m less l = tt
 falls_less (Ok Move.Stays) f m less l = tt
+falls_less (Ok (Move.Throw e)) f m less l = tt
+falls_less (Ok Move.Quit) f m less l = tt
 falls_less (Err h) f m less l = tt
 
 -- ---- the forms are steady

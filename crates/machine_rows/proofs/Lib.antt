@@ -2,3 +2,4 @@ pub mod Steps
 pub mod Scopes
 pub mod Falling
 pub mod Trials
+pub mod Outward

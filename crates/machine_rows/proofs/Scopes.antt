@@ -20,9 +20,9 @@ use Rattle.frames_scope.specs.Reading.{locals_in, IsRead}
 use Rattle.std.proofs.Math.ListN.{drop_of_length-le}
 use Rattle.machine_steps.specs.declared.moves.Move.{Move}
 use Rattle.machine_steps.specs.Steps.{state_at, Falls, Stepped}
-use Rattle.machine_rows.specs.Results.{is_shared, any_shared, made_all}
+use Rattle.machine_rows.specs.StepResults.{is_shared, any_shared, made_all}
 use Rattle.machine_rows.specs.Asking.{asks}
-use Rattle.machine_rows.specs.Rows.{numbered_form}
+use Rattle.machine_rows.specs.RowsLeft.{numbered_form}
 use Rattle.machine_rows.proofs.Falling.{block_asks, number_asks}
 use Rattle.machine_rows.proofs.Steps.{Leads, stepped_after}
 

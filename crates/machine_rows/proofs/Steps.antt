@@ -17,8 +17,8 @@ use Rattle.frames_scope.specs.Reading.{locals_in}
 use Rattle.rule_frames.specs.Reading as reading
 use Rattle.machine_steps.specs.declared.moves.Move.{Move}
 use Rattle.machine_steps.specs.Steps.{state_at, Stepped}
-use Rattle.machine_rows.specs.Results.{done_of, is_shared, made_all}
-use Rattle.machine_rows.specs.Rows.{or_stays}
+use Rattle.machine_rows.specs.StepResults.{done_of, is_shared, made_all}
+use Rattle.machine_rows.specs.RowsLeft.{or_stays}
 
 -- ---- what is shown of a program runs as it does
 
@@ -57,16 +57,12 @@ stepped_after {set = set} {a = a} {b = b} {d = d} {e = e} {f = f} {x = x} {y = y
         ((ev : Evaluator) → run set ev a (state_at d x n o) ≡ Over (Stopped c) (state_at f z n o)) ⊎ ((v : Tree) × ((ev : Evaluator) → run set ev a (state_at d x n o) ≡ Over (Value v) (state_at f z n o)) × (too_large set.limits v ≡ Some c))
     go n o (inl q) = inl (λ ev. l n o ev ∙ q ev)
     go n o (inr q) = inr (q.0, λ ev. l n o ev ∙ q.1 ev, q.2)
-stepped_after (Err Halt.Quit) l s = record { by = λ n o ev. l n o ev ∙ s.by n o ev }
-stepped_after (Err Halt.Closed) l s = record { by = λ n o. s.by n o }
 stepped_after (Err Halt.NoMemory) l s = record { by = λ n o. tt }
 
 -- the result, where it could be made
 pub stepped_done : {set : Setting} {t : Tree} {stay : Prog} {d : Definitions} {x : Bool} (r : Result Tree Halt) {rest : Option Tree → Prog} → Checked set.limits t r → Stepped set (Done t) stay d x (done_of r) rest d x
 stepped_done {set = set} {t = t} {d = d} {x = x} (Ok e) c = record { by = λ n o ev. ap (λ v. run set ev (Done v) (state_at d x n o)) (sym c.by.0) }
 stepped_done {t = t} (Err (Halt.Stopped s)) c = record { by = λ n o. inr (t, λ ev. refl, c.by.by) }
-stepped_done (Err Halt.Quit) c = absurd c.by.by
-stepped_done (Err Halt.Closed) c = absurd c.by.by
 stepped_done (Err Halt.NoMemory) c = record { by = λ n o. tt }
 
 -- ---- the moves
@@ -90,8 +86,6 @@ module _ {set : Setting} {a stay : Prog} {d : Definitions} {used : Bool} {rest :
 
   pub step_halts : (h : Halt) → Moved set.limits a (Err h) rest → Stepped set a stay d used (Err h) rest d used
   step_halts (Halt.Stopped c) g = record { by = λ n o. inl (λ ev. run_stops set (state_at d used n o) g.by ev) }
-  step_halts Halt.Quit g = absurd g.by
-  step_halts Halt.Closed g = absurd g.by
   step_halts Halt.NoMemory g = record { by = λ n o. tt }
 
   -- a symbol that is shared, and one that is not
@@ -136,6 +130,4 @@ module _ {set : Setting} {d : Definitions} {used : Bool} {stay : Prog} {a : (Opt
 
   pub step_trial_halts : (h : Halt) → reading.Tried set.names d set.limits a (Err h) rest → Stepped set (a (or_stays stay)) stay d used (Err h) (λ v. rest v (or_stays stay)) d used
   step_trial_halts (Halt.Stopped c) g = record { by = λ n o. inl (λ ev. run_seen_stops set (state_at d used n o) (g.by (or_stays stay)) ev) }
-  step_trial_halts Halt.Quit g = absurd g.by
-  step_trial_halts Halt.Closed g = absurd g.by
   step_trial_halts Halt.NoMemory g = record { by = λ n o. tt }

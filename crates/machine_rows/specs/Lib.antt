@@ -1,4 +1,4 @@
 pub mod Asking
-pub mod Results
-pub mod Rows
-pub mod Frames
+pub mod StepResults
+pub mod RowsLeft
+pub mod Machines

@@ -5,27 +5,26 @@ ghost use Rattle.semantics.specs.Program.{Prog, Done, Within};
 ghost use Rattle.semantics.specs.Scoping.{ask_values, symbols_of};
 ghost use Rattle.semantics.specs.Table as t;
 ghost use Rattle.semantics.specs.declared.builtin.Builtin as b;
-ghost use Rattle.builtin_names.specs.Named.{HasBuiltins, names_in};
+ghost use Rattle.builtin_names.specs.Named.{names_in};
 ghost use Rattle.machine_steps.specs.Setup.{setting_of};
 ghost use Rattle.machine_steps.specs.Steps.{Falls, Starts, Stepped};
-ghost use Rattle.frames_scope.specs.Left as left;
+ghost use Rattle.frames_scope.specs.ScopingLeft as left;
 ghost use Rattle.frames_scope.specs.Reading.{locals_in};
 ghost use Rattle.machine_rows.specs.Asking.{asks};
-ghost use Rattle.machine_rows.specs.Frames as f;
-ghost use Rattle.machine_rows.specs.Results.{any_shared};
-ghost use Rattle.machine_rows.specs.Rows.{left_block};
+ghost use Rattle.machine_rows.specs.Machines as f;
+ghost use Rattle.machine_rows.specs.StepResults.{any_shared};
+ghost use Rattle.machine_rows.specs.RowsLeft.{left_block};
 
-use crate::frame::Frame;
+use crate::machine::Machine;
 use crate::results::is_shared;
-use crate::scoped::whole;
-use builtin_names::name;
+use crate::scoped::scope_move;
+use builtin_names::{Vocabulary, name};
 use evaluation_steps::Halt;
 use expr_tree::Expr;
 use frames_scope::{Block, Locals, Scope, block_scope};
 use item_list::Items;
 use kernel_defs::Defs;
 use machine_steps::{Move, Scene};
-use name_table::Names;
 use semantics::Builtin;
 use shared_calls::Shared;
 use std::alloc::{AllocError, Global};
@@ -51,7 +50,7 @@ fn any_shared(shared: &Shared, locals: &Locals) -> bool
 }
 
 /// A Block whose symbols are not shared.
-fn seen(alloc: Global, scope: &mut Scope) -> Result<Block, AllocError>
+fn seen_block(alloc: Global, scope: &mut Scope) -> Result<Block, AllocError>
     ensures { (names : n.Names) → IfOk result (λ b. left.left_block names b None ≡ ask_values (locals_in scope.old.locals) [] (λ ls. Within ls scope.old.body Done)) }
 {
     let locals = mem::replace(&mut scope.locals, Items::new(alloc));
@@ -69,22 +68,21 @@ fn step_block(
     ensures falls { Falls result (asks (left.left_block (names_in scene.now.names.now) form.old answer)) (λ v. asks (left.left_block (names_in scene.now.names.now) form.new v)) }
 {
     let moved = form.step(scene.alloc, scene.names, answer);
-    whole(scene, defs, moved)
+    scope_move(scene, defs, moved)
 }
 
 impl BlockRow {
     /// A Block before its first step.
     pub(crate) fn start(
         alloc: Global,
-        names: &Names,
+        names: &Vocabulary,
         items: &[Expr],
-    ) -> Result<Option<Frame>, AllocError>
-        requires names { HasBuiltins names.now }
+    ) -> Result<Option<Machine>, AllocError>
         ensures { Starts (f.left (names_in names.now)) (λ stay. t.row (names_in names.now) b.Builtin.Block stay items.now) result }
     {
         let read = block_scope(alloc, names, items)?;
         match read {
-            Some(scope) => Ok(Some(Frame::Block(BlockRow::Unseen(scope)))),
+            Some(scope) => Ok(Some(Machine::Block(BlockRow::Unseen(scope)))),
             None => Ok(None),
         }
     }
@@ -106,7 +104,7 @@ impl BlockRow {
                     *used = true;
                     return Ok(Move::Done(name(scene.names, Builtin::Failed)));
                 }
-                let mut form = seen(scene.alloc, scope)?;
+                let mut form = seen_block(scene.alloc, scope)?;
                 let result = step_block(&mut form, scene, defs, None);
                 *self = BlockRow::Seen(form);
                 result

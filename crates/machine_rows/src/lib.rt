@@ -1,10 +1,11 @@
-//! Every machine of the evaluator as one, `Frame`, with one step over the definitions: the machines of control and scoping, of rules,
-//! iterators, changes, matching and replacing, each brought to the moves of `machine_steps`.
+//! Every machine of the evaluator as one, `Machine`, with one step over the definitions: the machines of control and scoping, of rules,
+//! iterators and changes, and of the rows that throw, catch or are those of the mode table, each brought to the moves of
+//! `machine_steps`.
 #![tactic(auto)]
 
 mod block_row;
 mod control_row;
-mod frame;
+mod machine;
 mod module_row;
 mod other_rows;
 mod results;
@@ -15,5 +16,5 @@ mod tests;
 mod with_row;
 
 pub use block_row::BlockRow;
-pub use frame::Frame;
+pub use machine::Machine;
 pub use module_row::ModuleRow;

@@ -4,24 +4,24 @@ ghost use Rattle.semantics.specs.Names as n;
 ghost use Rattle.semantics.specs.Program.{Prog};
 ghost use Rattle.semantics.specs.declared.builtin.Builtin as b;
 ghost use Rattle.semantics.specs.Table as t;
-ghost use Rattle.builtin_names.specs.Named.{HasBuiltins, names_in};
+ghost use Rattle.builtin_names.specs.Named.{names_in};
 ghost use Rattle.machine_steps.specs.Setup.{setting_of};
 ghost use Rattle.machine_steps.specs.Steps.{Falls, Starts, Stepped};
-ghost use Rattle.frames_scope.specs.Left as left;
+ghost use Rattle.frames_scope.specs.ScopingLeft as left;
 ghost use Rattle.frames_scope.specs.Reading.{locals_in};
-ghost use Rattle.machine_rows.specs.Frames as f;
-ghost use Rattle.machine_rows.specs.Rows.{left_module, numbered_form};
+ghost use Rattle.machine_rows.specs.Machines as f;
+ghost use Rattle.machine_rows.specs.RowsLeft.{left_module, numbered_form};
 ghost use Rattle.machine_rows.specs.Asking.{asks};
 
-use crate::frame::Frame;
-use crate::scoped::whole;
+use crate::machine::Machine;
+use crate::scoped::scope_move;
+use builtin_names::Vocabulary;
 use evaluation_steps::Halt;
 use expr_tree::{Expr, Stop};
 use frames_scope::{Module, Scope, module_scope};
 use item_list::Items;
 use kernel_defs::Defs;
 use machine_steps::{Move, Scene};
-use name_table::Names;
 use std::alloc::{AllocError, Global};
 use std::mem;
 
@@ -51,22 +51,21 @@ fn step_module(
     ensures falls { Falls result (asks (left.left_module (names_in scene.now.names.now) form.old answer)) (λ v. asks (left.left_module (names_in scene.now.names.now) form.new v)) }
 {
     let moved = form.step(scene.alloc, answer);
-    whole(scene, defs, moved)
+    scope_move(scene, defs, moved)
 }
 
 impl ModuleRow {
     /// A Module before its first step.
     pub(crate) fn start(
         alloc: Global,
-        names: &Names,
+        names: &Vocabulary,
         items: &[Expr],
-    ) -> Result<Option<Frame>, AllocError>
-        requires names { HasBuiltins names.now }
+    ) -> Result<Option<Machine>, AllocError>
         ensures { Starts (f.left (names_in names.now)) (λ stay. t.row (names_in names.now) b.Builtin.Module stay items.now) result }
     {
         let read = module_scope(alloc, names, items)?;
         match read {
-            Some(scope) => Ok(Some(Frame::Module(ModuleRow::Unnumbered(scope)))),
+            Some(scope) => Ok(Some(Machine::Module(ModuleRow::Unnumbered(scope)))),
             None => Ok(None),
         }
     }

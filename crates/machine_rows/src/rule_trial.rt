@@ -5,9 +5,9 @@ ghost use Rattle.builtin_names.specs.Named.{names_in};
 ghost use Rattle.machine_steps.specs.Setup.{setting_of};
 ghost use Rattle.machine_steps.specs.Steps.{Falls, Stepped};
 ghost use Rattle.rule_frames.specs.Questions as q;
-ghost use Rattle.machine_rows.specs.Rows.{left_rules};
+ghost use Rattle.machine_rows.specs.RowsLeft.{left_rules};
 
-use crate::results::{done, placed};
+use crate::results::{placed, result_move};
 use evaluation_steps::Halt;
 use expr_tree::Expr;
 use kernel_defs::Defs;
@@ -30,7 +30,7 @@ pub(crate) fn step_rules(
     };
     match attempt.step(scene.alloc, scene.names, &scene.limits, &attrs, answer) {
         Ok(Try::Guard(e, turn)) => Ok(Move::Ask(e, turn)),
-        Ok(Try::Found(bindings, e)) => done(placed(scene, &bindings, &e)),
+        Ok(Try::Found(bindings, e)) => result_move(placed(scene, &bindings, &e)),
         Ok(Try::Fails) => Ok(Move::Stays),
         Err(halt) => Err(halt),
     }

@@ -3,18 +3,18 @@ ghost use Rattle.std.specs.Prelude.{◌≡◌, Bool, IfOk, OnOk, Option};
 ghost use Rattle.expr_tree.specs.Tree.{Tree};
 ghost use Rattle.semantics.specs.Program.{Prog};
 ghost use Rattle.evaluation_steps.specs.Moves.{Moved};
-ghost use Rattle.builtin_names.specs.Named.{HasBuiltins, names_in};
+ghost use Rattle.builtin_names.specs.Named.{names_in};
 ghost use Rattle.machine_steps.specs.Setup.{setting_of};
 ghost use Rattle.machine_steps.specs.Steps.{Falls, Stepped};
-ghost use Rattle.frames_scope.specs.Moving.{moving};
+ghost use Rattle.frames_scope.specs.ScopeMoves.{moving};
 ghost use Rattle.frames_scope.specs.Reading.{locals_in};
 ghost use Rattle.machine_rows.specs.Asking.{asks, IsSteady};
-ghost use Rattle.machine_rows.specs.Results.{made_all};
+ghost use Rattle.machine_rows.specs.StepResults.{made_all};
 
-use crate::results::{done, placed};
+use crate::results::{placed, result_move};
 use evaluation_steps::Halt;
 use expr_tree::Expr;
-use frames_scope::{Locals, Move as ScopeMove};
+use frames_scope::{Locals, ScopeMove};
 use kernel_defs::Defs;
 use machine_steps::{Move, Scene};
 use std::alloc::{AllocError, Global};
@@ -40,7 +40,7 @@ fn make_all(scene: &Scene, defs: &mut Defs, locals: &Locals) -> Result<(), Alloc
 }
 
 /// A move with what it makes: symbols and the result.
-pub(crate) fn whole(
+pub(crate) fn scope_move(
     scene: &Scene,
     defs: &mut Defs,
     moved: Result<ScopeMove, AllocError>,
@@ -53,9 +53,9 @@ pub(crate) fn whole(
         Ok(ScopeMove::Within(locals, e)) => Ok(Move::Within(locals, e, false)),
         Ok(ScopeMove::Make(locals, bindings, e)) => {
             make_all(scene, defs, &locals)?;
-            done(placed(scene, &bindings, &e))
+            result_move(placed(scene, &bindings, &e))
         }
-        Ok(ScopeMove::Place(bindings, e)) => done(placed(scene, &bindings, &e)),
+        Ok(ScopeMove::Place(bindings, e)) => result_move(placed(scene, &bindings, &e)),
         Ok(ScopeMove::Done(e)) => Ok(Move::Done(e)),
         Err(_) => Err(Halt::NoMemory),
     }

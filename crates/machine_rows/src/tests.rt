@@ -1,14 +1,12 @@
 ghost use Rattle.std.specs.Prelude.{IfOk};
-ghost use Rattle.builtin_names.specs.Named.{HasBuiltins};
 ghost use Rattle.evaluation_steps.specs.Stopping.{AreBounded};
 
-use crate::Frame;
-use builtin_names::{make, names_with};
+use crate::Machine;
+use builtin_names::{Vocabulary, make, names_with};
 use expr_tree::{Expr, Exprs, Limits, Node, Sym};
 use item_list::Items;
 use kernel_defs::Defs;
 use machine_steps::{Mode, Move, Scene};
-use name_table::Names;
 use semantics::Builtin;
 use std::alloc::Global;
 use std::test::Fail;
@@ -18,9 +16,7 @@ const X: Sym = Sym {
     number: 0,
 };
 
-fn table(alloc: Global) -> Result<Names, Fail>
-    ensures { IfOk result (λ names. HasBuiltins names) }
-{
+fn table(alloc: Global) -> Result<Vocabulary, Fail> {
     let none = Items::new(alloc);
     Ok(names_with(alloc, &none)?)
 }
@@ -38,9 +34,7 @@ fn small() -> Limits
 }
 
 // {x} and x
-fn items(alloc: Global, names: &Names) -> Result<Exprs, Fail>
-    requires { HasBuiltins names.now }
-{
+fn items(alloc: Global, names: &Vocabulary) -> Result<Exprs, Fail> {
     let mut locals = Items::new(alloc);
     locals.push(Expr::symbol(X))?;
     let mut items = Items::new(alloc);
@@ -49,20 +43,21 @@ fn items(alloc: Global, names: &Names) -> Result<Exprs, Fail>
     Ok(items)
 }
 
-fn begin(alloc: Global, names: &Names, row: Builtin) -> Result<Frame, Fail>
-    requires { HasBuiltins names.now }
-{
+fn begin(alloc: Global, names: &Vocabulary, row: Builtin) -> Result<Machine, Fail> {
     let items = items(alloc, names)?;
-    match Frame::start(alloc, names, row, items.as_slice()) {
-        Some(Ok(Some(frame))) => Ok(frame),
+    match Machine::start(alloc, names, row, items.as_slice()) {
+        Some(Ok(Some(machine))) => Ok(machine),
         _ => Err(Fail::from("no machine")),
     }
 }
 
 // the number of the symbol that is the result
-fn number_of(alloc: Global, names: &Names, frame: &mut Frame, defs: &mut Defs) -> Option<u64>
-    requires { HasBuiltins names.now }
-{
+fn number_of(
+    alloc: Global,
+    names: &Vocabulary,
+    machine: &mut Machine,
+    defs: &mut Defs,
+) -> Option<u64> {
     let scene = Scene {
         alloc,
         names,
@@ -71,7 +66,7 @@ fn number_of(alloc: Global, names: &Names, frame: &mut Frame, defs: &mut Defs) -
         kernel: 0,
     };
     let mut used = false;
-    let Ok(Move::Done(value)) = frame.step(&scene, defs, &mut used, None) else {
+    let Ok(Move::Done(value)) = machine.step(&scene, defs, &mut used, None) else {
         return None;
     };
     match value.node() {

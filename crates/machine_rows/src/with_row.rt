@@ -3,37 +3,36 @@ ghost use Rattle.std.specs.Prelude.{◌≡◌, Bool};
 ghost use Rattle.semantics.specs.Program.{Prog};
 ghost use Rattle.semantics.specs.Table as t;
 ghost use Rattle.semantics.specs.declared.builtin.Builtin as b;
-ghost use Rattle.builtin_names.specs.Named.{HasBuiltins, names_in};
+ghost use Rattle.builtin_names.specs.Named.{names_in};
 ghost use Rattle.machine_steps.specs.Setup.{setting_of};
 ghost use Rattle.machine_steps.specs.Steps.{Falls, Starts, Stepped};
-ghost use Rattle.frames_scope.specs.Left.{left_with};
+ghost use Rattle.frames_scope.specs.ScopingLeft.{left_with};
 ghost use Rattle.machine_rows.specs.Asking.{asks};
-ghost use Rattle.machine_rows.specs.Frames as f;
+ghost use Rattle.machine_rows.specs.Machines as f;
 
-use crate::frame::Frame;
-use crate::scoped::whole;
+use crate::machine::Machine;
+use crate::scoped::scope_move;
+use builtin_names::Vocabulary;
 use evaluation_steps::Halt;
 use expr_tree::Expr;
 use frames_scope::{With, block_scope};
 use kernel_defs::Defs;
 use machine_steps::{Move, Scene};
-use name_table::Names;
 use std::alloc::{AllocError, Global};
 
 /// A With before its first step.
 pub(crate) fn start_with(
     alloc: Global,
-    names: &Names,
+    names: &Vocabulary,
     items: &[Expr],
-) -> Result<Option<Frame>, AllocError>
-    requires names { HasBuiltins names.now }
+) -> Result<Option<Machine>, AllocError>
     ensures { Starts (f.left (names_in names.now)) (λ stay. t.row (names_in names.now) b.Builtin.With stay items.now) result }
 {
     let Some(scope) = block_scope(alloc, names, items)? else {
         return Ok(None);
     };
     match With::start(alloc, &scope)? {
-        Some(form) => Ok(Some(Frame::With(form))),
+        Some(form) => Ok(Some(Machine::With(form))),
         None => Ok(None),
     }
 }
@@ -49,5 +48,5 @@ pub(crate) fn step_with(
     ensures falls { Falls result (asks (left_with (names_in scene.now.names.now) form.old answer)) (λ v. asks (left_with (names_in scene.now.names.now) form.new v)) }
 {
     let moved = form.step(scene.alloc, answer);
-    whole(scene, defs, moved)
+    scope_move(scene, defs, moved)
 }

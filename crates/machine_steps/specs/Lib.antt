@@ -1,3 +1,4 @@
 pub mod Attributes
+pub mod Outward
 pub mod Setup
 pub mod Steps

@@ -1,16 +1,18 @@
 -- What an evaluation has from its caller.
---     mode_of, setting_of
+--     mode_of, setting_of   what does not change during it
+--     state_of              what does
 use Rattle.std.specs.Prelude.{ℕ, List}
 use Rattle.expr_tree.specs.Tree.{Tree}
 use Rattle.name_table.specs.Table.{NameTable}
 use Rattle.script_text.specs.Spelling.{by_texts}
 use Rattle.semantics.specs.Program as p
-use Rattle.semantics.specs.Play.{Setting}
+use Rattle.semantics.specs.Play.{Setting, State}
 use Rattle.semantics.specs.Texts.{names_of}
 use Rattle.builtin_names.specs.Named.{names_in}
 use Rattle.syntax.specs.Lines.{value_text}
 use Rattle.machine_steps.specs.declared.scene.Mode.{Mode}
 use Rattle.machine_steps.specs.declared.scene.Scene.{Scene}
+use Rattle.machine_steps.specs.declared.state.KernelState.{KernelState}
 
 abbrev pub mode_of : Mode → p.Mode
 mode_of Mode.Cell = p.Cell
@@ -30,3 +32,6 @@ setting_of c =
       kernel = c.kernel;
       limits = c.limits;
     }
+
+abbrev pub state_of : KernelState → State
+state_of k = record { definitions = k.defs; steps = k.steps; used = k.used; open_section = k.open_section }

@@ -1,17 +1,15 @@
 //! The attributes that definitions give.
-ghost use Rattle.builtin_names.specs.Named.{HasBuiltins};
 
+use builtin_names::Vocabulary;
 use expr_tree::{Attrs, Sym};
 use kernel_defs::Defs;
 use match_seq::AttrSource;
-use name_table::Names;
 
 /// What matching asks of symbols, as definitions have it.
 #[derive(Drop)]
 pub struct DefAttrs<'a> {
     pub defs: &'a Defs,
-    pub names: &'a Names,
-    pub ghost builtins: { HasBuiltins names.now },
+    pub names: &'a Vocabulary,
 }
 
 impl<'a> AttrSource for DefAttrs<'a> {

@@ -1,9 +1,8 @@
 //! Where an evaluation runs.
-ghost use Rattle.builtin_names.specs.Named.{HasBuiltins};
 ghost use Rattle.evaluation_steps.specs.Stopping.{AreBounded};
 
+use builtin_names::Vocabulary;
 use expr_tree::Limits;
-use name_table::Names;
 use std::alloc::Global;
 
 /// Where an evaluation runs: a cell of a script, an item of the queue, or the service of an access.
@@ -18,10 +17,9 @@ pub enum Mode {
 #[derive(Drop)]
 pub struct Scene<'a> {
     pub alloc: Global,
-    pub names: &'a Names,
+    pub names: &'a Vocabulary,
     pub limits: Limits,
     pub mode: Mode,
     pub kernel: u32,
-    pub ghost builtins: { HasBuiltins names.now },
     pub ghost bounded: { AreBounded limits },
 }

@@ -6,7 +6,7 @@ use Rattle.expr_tree.specs.Tree.{Tree, integer, string, symbol, normal, Trees, n
 use Rattle.semantics.specs.declared.builtin.Builtin.{Builtin}
 use Rattle.semantics.specs.Names.{Names, known, is_known}
 use Rattle.semantics.specs.Match as match
-use Rattle.semantics.specs.Match.{Kind, blank, sequence, null_sequence, pattern, test, condition, alternatives, hold, verbatim, other, kind, single_by, Matching}
+use Rattle.semantics.specs.Match.{Kind, blank, sequence, null_sequence, pattern, test, condition, alternatives, hold, verbatim, other, kind, has_shape, single_by, first_is_symbol, Matching}
 use Rattle.match_seq.specs.declared.constructs.Form.{Form}
 use Rattle.match_seq.specs.declared.constructs.Form.TheVariants as form
 use Rattle.match_seq.specs.Forms.{zero_or_one, only_one, only_two, form_of}
@@ -87,22 +87,22 @@ only_one-more n a = rw (unequal (n + 1 + 1) 1 (λ e. absurd (omega arith))) refl
 pub only_two-more : (n : ℕ) (a : Form) → only_two (n + 1 + 1 + 1) a ≡ form.Ordinary
 only_two-more n a = rw (unequal (n + 1 + 1 + 1) 2 (λ e. absurd (omega arith))) refl
 
-single_two_first : (b first second : Bool) (a : Form) → single_form a first second ≡ first → (b && first) ≡ single_form (if b then a else form.Ordinary) first second
-single_two_first true first second a e = sym e
-single_two_first false first second a e = refl
+single_if : (b named first second single : Bool) (a : Form) → single_form a named first second ≡ single → (b && single) ≡ single_form (if b then a else form.Ordinary) named first second
+single_if true named first second single a e = sym e
+single_if false named first second single a e = refl
 
-single_two_second : (b first second : Bool) (a : Form) → single_form a first second ≡ second → (b && second) ≡ single_form (if b then a else form.Ordinary) first second
-single_two_second true first second a e = sym e
-single_two_second false first second a e = refl
+single_named : (b named first second : Bool) → ((b && named) && second) ≡ single_form (if b then form.Named else form.Ordinary) named first second
+single_named true named first second = refl
+single_named false named first second = refl
 
-single_none : (b first second : Bool) (a : Form) → single_form a first second ≡ false → false ≡ single_form (if b then a else form.Ordinary) first second
-single_none true first second a e = sym e
-single_none false first second a e = refl
+not_single : (b : Bool) → (b && false) ≡ false
+not_single true = refl
+not_single false = refl
 
-single_none_of : (b c first second : Bool) (x y : Form) → single_form x first second ≡ false → single_form y first second ≡ false → false ≡ single_form (if b then x else if c then y else form.Ordinary) first second
-single_none_of true c first second x y e f = sym e
-single_none_of false true first second x y e f = sym f
-single_none_of false false first second x y e f = refl
+single_none_of : (b c named first second : Bool) (x y : Form) → single_form x named first second ≡ false → single_form y named first second ≡ false → false ≡ single_form (if b then x else if c then y else form.Ordinary) named first second
+single_none_of true c named first second x y e f = sym e
+single_none_of false true named first second x y e f = sym f
+single_none_of false false named first second x y e f = refl
 
 long : (n : ℕ) → 1 < n → leb n 1 ≡ false
 long n p = is_no (leb n 1) refl
@@ -111,24 +111,24 @@ long n p = is_no (leb n 1) refl
     is_no true e = let q : n ≤ 1 = leb-true n 1 e in absurd (omega (arith, p, q))
     is_no false e = e
 
-single_blank : (n : ℕ) (first second : Bool) → leb n 1 ≡ single_form (zero_or_one n form.One form.OneOf) first second
-single_blank zero first second = refl
-single_blank (suc zero) first second = refl
-single_blank (suc (suc n)) first second =
+single_blank : (n : ℕ) (named first second : Bool) → (leb n 1 && true) ≡ single_form (zero_or_one n form.One form.OneOf) named first second
+single_blank zero named first second = refl
+single_blank (suc zero) named first second = refl
+single_blank (suc (suc n)) named first second =
     let e : leb (suc (suc n)) 1 ≡ false = long (suc (suc n)) (omega arith) in
     rw (unequal (suc (suc n)) 0 (λ e. absurd (omega arith)), unequal (suc (suc n)) 1 (λ e. absurd (omega arith)), e) refl
 
-single_forms : (k : Kind) (n : ℕ) (first second : Bool) → single_by k n first second ≡ single_form (form_by k n) first second
-single_forms blank n first second = single_blank n first second
-single_forms sequence n first second = single_none_of (n == 0) (n == 1) first second form.Some form.SomeOf refl refl
-single_forms null_sequence n first second = single_none_of (n == 0) (n == 1) first second form.Any form.AnyOf refl refl
-single_forms pattern n first second = single_two_second (n == 2) first second form.Named refl
-single_forms test n first second = single_two_first (n == 2) first second form.Tested refl
-single_forms condition n first second = single_two_first (n == 2) first second form.Conditioned refl
-single_forms alternatives n first second = refl
-single_forms hold n first second = single_two_first (n == 1) first second form.Held refl
-single_forms verbatim n first second = single_none (n == 1) first second form.Verbatim refl
-single_forms other n first second = refl
+single_forms : (k : Kind) (n : ℕ) (named first second : Bool) → (has_shape k n named && single_by k first second) ≡ single_form (form_by k n) named first second
+single_forms blank n named first second = single_blank n named first second
+single_forms sequence n named first second = not_single (leb n 1) ∙ single_none_of (n == 0) (n == 1) named first second form.Some form.SomeOf refl refl
+single_forms null_sequence n named first second = not_single (leb n 1) ∙ single_none_of (n == 0) (n == 1) named first second form.Any form.AnyOf refl refl
+single_forms pattern n named first second = single_named (n == 2) named first second
+single_forms test n named first second = single_if (n == 2) named first second first form.Tested refl
+single_forms condition n named first second = single_if (n == 2) named first second first form.Conditioned refl
+single_forms alternatives n named first second = refl
+single_forms hold n named first second = single_if (n == 1) named first second first form.Held refl
+single_forms verbatim n named first second = single_if (n == 1) named first second false form.Verbatim refl
+single_forms other n named first second = refl
 
 mutual
   pub single_is : (names : Names) (p : Tree) → is_single (constructs_of names) p ≡ match.is_single names p
@@ -136,8 +136,8 @@ mutual
   single_is names (string t) = refl
   single_is names (symbol s) = refl
   single_is names (normal h ps) =
-      (λ i. single_form (form_is names h (count ps) i) (first_single_is names ps i) (second_single_is names ps i))
-      ∙ sym (single_forms (kind names h) (count ps) (match.first_is_single names ps) (match.second_is_single names ps))
+      (λ i. single_form (form_is names h (count ps) i) (first_is_symbol ps) (first_single_is names ps i) (second_single_is names ps i))
+      ∙ sym (single_forms (kind names h) (count ps) (first_is_symbol ps) (match.first_is_single names ps) (match.second_is_single names ps))
 
   pub first_single_is : (names : Names) (ps : Trees) → first_is_single (constructs_of names) ps ≡ match.first_is_single names ps
   first_single_is names nil = refl

@@ -16,6 +16,7 @@ use Rattle.match_seq.specs.Search.{answer, answers, find_form, find_normal, find
 use Rattle.match_seq.specs.Goals.{told, matching_of}
 use Rattle.match_seq.specs.Heads.{heads, heads_of, how_told, told_of}
 use Rattle.match_seq.specs.Origin.{constructs_of}
+use Rattle.laws_matching.proofs.Heads.{or_left, among-left, among-right}
 use Rattle.match_seq.proofs.Complete.{find-matches}
 
 abbrev mutual
@@ -40,27 +41,6 @@ mutual
   parts_same : (cs : Constructs) (A B : Sym → Matching) (ps : Trees) → AgreeAll A B ps → parts cs A ps ≡ parts cs B ps
   parts_same cs A B nil agree = refl
   parts_same cs A B (cons p ps) agree = λ i. record { tree = p; finder = find_same cs A B p agree.0 i } ∷ parts_same cs A B ps agree.1 i
-
-among-append : (s : Sym) (ss ts : List Sym) → among s (ss ++ ts) ≡ (among s ss || among s ts)
-among-append s [] ts = refl
-among-append s (t ∷ ss) ts = by_test (symbol_eq s t) (among-append s ss ts)
-  where
-    by_test : (c : Bool) → among s (ss ++ ts) ≡ (among s ss || among s ts) → (c || among s (ss ++ ts)) ≡ ((c || among s ss) || among s ts)
-    by_test true e = refl
-    by_test false e = e
-
-or_left : (b c : Bool) → b ≡ true → (b || c) ≡ true
-or_left b c e = rw e refl
-
-or_right : (b c : Bool) → c ≡ true → (b || c) ≡ true
-or_right true c e = refl
-or_right false c e = e
-
-among-left : (s : Sym) (ss ts : List Sym) → among s ss ≡ true → among s (ss ++ ts) ≡ true
-among-left s ss ts e = among-append s ss ts ∙ or_left (among s ss) (among s ts) e
-
-among-right : (s : Sym) (ss ts : List Sym) → among s ts ≡ true → among s (ss ++ ts) ≡ true
-among-right s ss ts e = among-append s ss ts ∙ or_right (among s ss) (among s ts) e
 
 told_here : (A : Sym → Matching) (ss : List Sym) (s : Sym) → among s ss ≡ true → told (told_of A ss) s ≡ A s
 told_here A [] s e = absurd (cc)

@@ -6,7 +6,7 @@ use Rattle.std.specs.Prelude.{ℕ, zero, suc, ◌+◌, ◌-◌, min, max, List, 
 use Rattle.expr_tree.specs.declared.sym.Sym.{Sym}
 use Rattle.expr_tree.specs.Tree.{Tree, integer, string, symbol, normal, Trees, nil, cons, elements, call, count}
 use Rattle.expr_tree.specs.Substitution.{value_of}
-use Rattle.semantics.specs.Match.{Guard, Test, Cond, Found, Matching, same_run, have_head, guarded, how_of}
+use Rattle.semantics.specs.Match.{Guard, Test, Cond, Found, Matching, same_run, have_head, guarded, how_of, first_is_symbol}
 use Rattle.match_seq.specs.declared.constructs.Constructs.{Constructs}
 use Rattle.match_seq.specs.declared.constructs.Form.{Form}
 use Rattle.match_seq.specs.declared.constructs.Form.TheVariants as form
@@ -50,15 +50,15 @@ abbrev pub go_on : Bool → Next → Next
 go_on true next found = next found
 go_on false next found = dead
 
--- a single blank, also under a name, a test, a condition or HoldPattern
-abbrev pub single_form : Form → Bool → Bool → Bool
-single_form (form.One) first second = true
-single_form (form.OneOf) first second = true
-single_form (form.Named) first second = second
-single_form (form.Tested) first second = first
-single_form (form.Conditioned) first second = first
-single_form (form.Held) first second = first
-single_form _ first second = false
+-- a single blank, also under a name, a test, a condition or HoldPattern; from whether the first item is a symbol, and the first and the second are single
+abbrev pub single_form : Form → Bool → Bool → Bool → Bool
+single_form (form.One) named first second = true
+single_form (form.OneOf) named first second = true
+single_form (form.Named) named first second = named && second
+single_form (form.Tested) named first second = first
+single_form (form.Conditioned) named first second = first
+single_form (form.Held) named first second = first
+single_form _ named first second = false
 
 abbrev mutual
   pub is_single : Constructs → Tree → Bool
@@ -66,7 +66,7 @@ abbrev mutual
   is_single constructs (string t) = false
   is_single constructs (symbol s) = false
   is_single constructs (normal h ps) =
-      single_form (form_of constructs h (count ps)) (first_is_single constructs ps) (second_is_single constructs ps)
+      single_form (form_of constructs h (count ps)) (first_is_symbol ps) (first_is_single constructs ps) (second_is_single constructs ps)
 
   pub first_is_single : Constructs → Trees → Bool
   first_is_single constructs nil = false

@@ -1,11 +1,10 @@
 ghost use Rattle.std.specs.Prelude.{◌≡◌};
-ghost use Rattle.builtin_names.specs.Named.{HasBuiltins, names_in};
+ghost use Rattle.builtin_names.specs.Named.{names_in};
 ghost use Rattle.match_seq.specs.Origin.{constructs_of};
 ghost use Rattle.match_seq.specs.Forms.{zero_or_one, only_one, only_two, form_under, form_of};
 
-use builtin_names::symbol_for;
+use builtin_names::{Vocabulary, symbol_for};
 use expr_tree::{Expr, Node, Sym};
-use name_table::Names;
 use semantics::Builtin;
 
 /// The symbols of the constructs of patterns.
@@ -66,8 +65,7 @@ fn only_two(count: usize, two: Form) -> Form
 
 impl Constructs {
     /// The symbols of the constructs in a table of names.
-    pub(crate) fn of(names: &Names) -> Constructs
-        requires names { HasBuiltins names.now }
+    pub(crate) fn of(names: &Vocabulary) -> Constructs
         ensures { result ≡ constructs_of (names_in names.now) }
     {
         Constructs {

@@ -3,7 +3,7 @@ ghost use Rattle.semantics.specs.Match.{nothing_found, matches};
 ghost use Rattle.semantics.specs.Names as n;
 ghost use Rattle.match_seq.specs.Heads.{matching, heads, told_of};
 ghost use Rattle.match_seq.specs.Origin.{constructs_of};
-ghost use Rattle.builtin_names.specs.Named.{HasBuiltins, names_in};
+ghost use Rattle.builtin_names.specs.Named.{names_in};
 ghost use Rattle.match_seq.specs.Search.{answer, answers, steps};
 ghost use Rattle.match_seq.specs.Goals.{found_of, find_pattern, branch, branch_or_dead, after, left, work};
 
@@ -12,9 +12,9 @@ use crate::found::Found;
 use crate::goal::{Branch, Goal, Turn};
 use crate::setting::Setting;
 use crate::source::{AttrSource, add_heads};
+use builtin_names::Vocabulary;
 use expr_tree::Expr;
 use item_list::Items;
-use name_table::Names;
 use std::alloc::{AllocError, Global};
 use std::marker::Model;
 
@@ -117,9 +117,8 @@ impl Matcher {
         pattern: &Expr,
         subject: &Expr,
         attrs: &A,
-        names: &Names,
+        names: &Vocabulary,
     ) -> Result<Matcher, AllocError>
-        requires names { HasBuiltins names.now }
         ensures { IfOk result (λ m. m ≡ matches (names_in names.now) (λ s. matching (A.told attrs.now s)) pattern.now subject.now) }
     {
         let made = Matcher::by(alloc, Constructs::of(names), pattern, subject, attrs)?;

@@ -1,5 +1,5 @@
 ghost use Rattle.std.specs.Prelude.{◌≡◌};
-ghost use Rattle.semantics.specs.Match.{how_of};
+ghost use Rattle.semantics.specs.Match.{how_of, is_symbol};
 ghost use Rattle.match_seq.specs.Goals.{matching_of, told, head_in, how_in};
 ghost use Rattle.match_seq.specs.Search.{is_single};
 
@@ -60,6 +60,12 @@ impl Setting {
     }
 }
 
+fn is_symbol(e: &Expr) -> bool
+    ensures { result ≡ is_symbol e.now }
+{
+    matches!(e.node(), Node::Symbol(_))
+}
+
 impl Constructs {
     /// Whether a pattern is a single blank, also under a name, a test, a condition or `HoldPattern`.
     #[tactic(auto, using(crate::proofs::Places::item_steps))]
@@ -72,7 +78,7 @@ impl Constructs {
         match self.form(head, items.len()) {
             Form::One | Form::OneOf => true,
             Form::Named => match items.as_slice() {
-                [_, second, ..] => self.is_single(second),
+                [name, second, ..] => is_symbol(name) && self.is_single(second),
                 _ => false,
             },
             Form::Tested | Form::Conditioned | Form::Held => match items.as_slice() {

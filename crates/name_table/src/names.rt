@@ -65,7 +65,6 @@ impl Names {
 
     /// The text of a symbol, with `$` and the number where it is generated.
     pub fn text(&self, alloc: Global, symbol: Sym) -> Result<Text, AllocError>
-        requires { symbol.base < length self.now.texts }
         ensures { IfOk result (λ t. t ≡ symbol_text (by_texts self.now.texts) symbol) }
     {
         let mut text = Text::of(alloc, self.base_text(symbol.base))?;
@@ -77,14 +76,13 @@ impl Names {
         Ok(text)
     }
 
-    /// The text of a base.
+    /// The text of a base. That of one that is not kept is empty.
     pub fn base_text(&self, base: u32) -> &str
-        requires { base < length self.now.texts }
         ensures { result.now ≡ by_texts self.now.texts base }
     {
         match self.set.get_index(base as usize) {
             Some(text) => text.as_str(),
-            None => unreachable!(),
+            None => "",
         }
     }
 

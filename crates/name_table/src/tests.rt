@@ -28,8 +28,15 @@ fn each_base_is_kept_once_in_the_order_of_names(rt: HostRuntime) -> Result<(), F
         number: 12,
     };
     assert_eq!(rt; names.find("x$12"), Some(generated));
-    if names.len() == 3 {
-        assert_eq!(rt; names.text(rt.alloc(), generated)?.as_str(), "x$12");
-    }
+    assert_eq!(rt; names.text(rt.alloc(), generated)?.as_str(), "x$12");
+    Ok(())
+}
+
+#[test]
+fn a_base_that_is_not_kept_has_no_text(rt: HostRuntime) -> Result<(), Fail> {
+    let names = Names::of_texts(rt.alloc(), &Items::new(rt.alloc()), &Items::new(rt.alloc()))?;
+    let symbol = Sym { base: 7, number: 2 };
+    assert_eq!(rt; names.text(rt.alloc(), symbol)?.as_str(), "$2");
+    assert_eq!(rt; names.base_text(7), "");
     Ok(())
 }

@@ -3,7 +3,7 @@ ghost use Rattle.std.specs.Prelude.{◌≡◌, ◌∷◌, [], IfOk, Some};
 ghost use Rattle.semantics.specs.Builtin.{row_number};
 ghost use Rattle.semantics.specs.Names as n;
 ghost use Rattle.syntax.specs.Phrases.{same_row, is_open_in, appended};
-ghost use Rattle.builtin_names.specs.Named.{HasBuiltins, names_in};
+ghost use Rattle.builtin_names.specs.Named.{names_in};
 ghost use Rattle.laws_reading.specs.Kept.{cut, chained_one, kept_chained};
 ghost use Rattle.phrase_form.specs.Held.{held_tree, kept_in, appended_kept};
 ghost use Rattle.phrase_form.specs.Words.{kind_in};
@@ -11,9 +11,8 @@ ghost use Rattle.phrase_form.specs.Words.{kind_in};
 use crate::elements::two_items;
 use crate::kept::{Held, Kept};
 use crate::terminal::PhraseKind;
-use builtin_names::name;
+use builtin_names::{Vocabulary, name};
 use expr_tree::{Expr, Node};
-use name_table::Names;
 use semantics::Builtin;
 use std::alloc::{AllocError, Global};
 
@@ -42,8 +41,13 @@ fn is_open_in(row: Builtin, kind: PhraseKind) -> bool
 }
 
 /// The first two operands of a chain.
-fn started(alloc: Global, names: &Names, row: Builtin, a: Expr, b: Expr) -> Result<Held, AllocError>
-    requires names { HasBuiltins names.now }
+fn started(
+    alloc: Global,
+    names: &Vocabulary,
+    row: Builtin,
+    a: Expr,
+    b: Expr,
+) -> Result<Held, AllocError>
     ensures { IfOk result (λ h. held_tree h ≡ cut (n.make (names_in names.now) row (a ∷ b ∷ []))) }
 {
     Ok(Held::Chain(name(names, row), two_items(alloc, a, b)?))
@@ -53,12 +57,11 @@ fn started(alloc: Global, names: &Names, row: Builtin, a: Expr, b: Expr) -> Resu
 #[tactic(auto, using(expr_tree::proofs::Callers::tree_steps))]
 fn reopened(
     alloc: Global,
-    names: &Names,
+    names: &Vocabulary,
     row: Builtin,
     expr: Expr,
     item: Expr,
 ) -> Result<Held, AllocError>
-    requires names { HasBuiltins names.now }
     ensures { IfOk result (λ h. held_tree h ≡ cut (appended (names_in names.now) row expr item)) }
 {
     match expr.into_node(alloc)? {
@@ -76,12 +79,11 @@ fn reopened(
 /// One more operand of a chain.
 fn continued(
     alloc: Global,
-    names: &Names,
+    names: &Vocabulary,
     row: Builtin,
     held: Held,
     item: Expr,
 ) -> Result<Held, AllocError>
-    requires names { HasBuiltins names.now }
     ensures { IfOk result (λ h. held_tree h ≡ appended_kept (names_in names.now) row (held_tree held) item) }
 {
     match held {
@@ -96,8 +98,13 @@ fn continued(
 }
 
 /// What a chain holds of its operands.
-fn linked(alloc: Global, names: &Names, row: Builtin, x: Kept, y: Expr) -> Result<Held, AllocError>
-    requires names { HasBuiltins names.now }
+fn linked(
+    alloc: Global,
+    names: &Vocabulary,
+    row: Builtin,
+    x: Kept,
+    y: Expr,
+) -> Result<Held, AllocError>
     ensures { IfOk result (λ h. held_tree h ≡ chained_one (names_in names.now) row (kind_in x.kind) (Some y) (held_tree x.held)) }
 {
     if is_open_in(row, x.kind) {
@@ -112,12 +119,11 @@ fn linked(alloc: Global, names: &Names, row: Builtin, x: Kept, y: Expr) -> Resul
 /// The phrase of an operator whose operands stand in one row.
 pub(crate) fn chained(
     alloc: Global,
-    names: &Names,
+    names: &Vocabulary,
     row: Builtin,
     x: Kept,
     y: Option<Expr>,
 ) -> Result<Kept, AllocError>
-    requires names { HasBuiltins names.now }
     ensures { IfOk result (λ k. kept_in k ≡ kept_chained (names_in names.now) row (kept_in x) y) }
 {
     let held = match y {

@@ -2,7 +2,7 @@
 ghost use Rattle.std.specs.Prelude.{◌≡◌, List, IfOk};
 ghost use Rattle.semantics.specs.Names as n;
 ghost use Rattle.syntax.specs.Terminals as ter;
-ghost use Rattle.builtin_names.specs.Named.{HasBuiltins, names_in};
+ghost use Rattle.builtin_names.specs.Named.{names_in};
 ghost use Rattle.phrase_form.specs.Held.{kept_in};
 ghost use Rattle.phrase_form.specs.States.{frames_in, opened_in, mode_in, after};
 ghost use Rattle.phrase_form.specs.Steps as s;
@@ -15,8 +15,8 @@ use crate::frame::{Frame, Mode, Opened};
 use crate::kept::Kept;
 use crate::next::Bracket;
 use crate::stack::Stack;
+use builtin_names::Vocabulary;
 use expr_tree::Exprs;
-use name_table::Names;
 use std::alloc::{AllocError, Global};
 
 /// A comma behind a phrase.
@@ -55,11 +55,10 @@ fn is_closed_by(opening: &Opened, bracket: Bracket) -> bool
 #[tactic(auto, unfolding(syntax::proofs::Reader::made))]
 fn make(
     alloc: Global,
-    names: &Names,
+    names: &Vocabulary,
     opening: Opened,
     items: Option<Exprs>,
 ) -> Result<Mode, AllocError>
-    requires names { HasBuiltins names.now }
     ensures { IfOk result (λ m. mode_in (names_in names.now) m ≡ s.made (names_in names.now) (opened_in (names_in names.now) opening) items) }
 {
     match opening {
@@ -73,13 +72,12 @@ fn make(
 #[tactic(auto, unfolding(syntax::proofs::Reader::closed_elements))]
 pub(crate) fn close_elements(
     alloc: Global,
-    names: &Names,
+    names: &Vocabulary,
     stack: &Stack,
     bracket: Bracket,
     opening: Opened,
     items: Option<Exprs>,
 ) -> Result<Option<Mode>, AllocError>
-    requires names { HasBuiltins names.now }
     ensures { IfOk result (λ m. after (names_in names.now) stack.now m ≡ s.closed_elements (names_in names.now) (bracket_in bracket) (opened_in (names_in names.now) opening) items (frames_in (names_in names.now) stack.now)) }
 {
     if is_closed_by(&opening, bracket) {
@@ -104,12 +102,11 @@ fn close_group(bracket: Bracket, phrase: Kept) -> Option<Mode>
 #[tactic(auto, unfolding(syntax::proofs::Reader::closed))]
 pub(crate) fn close(
     alloc: Global,
-    names: &Names,
+    names: &Vocabulary,
     stack: &mut Stack,
     bracket: Bracket,
     phrase: Kept,
 ) -> Result<Option<Mode>, AllocError>
-    requires names { HasBuiltins names.now }
     ensures { IfOk result (λ m. after (names_in names.now) stack.new m ≡ s.closed (names_in names.now) (bracket_in bracket) (frames_in (names_in names.now) stack.old) (kept_in phrase)) }
 {
     if stack.pop_group() {
@@ -128,11 +125,10 @@ pub(crate) fn close(
 #[tactic(auto, unfolding(syntax::proofs::Reader::follows_half))]
 pub(crate) fn close_part(
     alloc: Global,
-    names: &Names,
+    names: &Vocabulary,
     stack: &mut Stack,
     items: Option<Exprs>,
 ) -> Result<Option<Mode>, AllocError>
-    requires names { HasBuiltins names.now }
     ensures { IfOk result (λ m. after (names_in names.now) stack.new m ≡ s.follows_half (names_in names.now) (ter.Closes ter.Square) (frames_in (names_in names.now) stack.old) items) }
 {
     match stack.pop_outer() {

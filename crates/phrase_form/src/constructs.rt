@@ -2,7 +2,7 @@
 ghost use Rattle.std.specs.Prelude.{◌≡◌, IfOk, Some};
 ghost use Rattle.syntax.specs.Operators.{gives_of};
 ghost use Rattle.syntax.specs.Phrases.{is_comparison, is_sameness, of_one_kind, chains_with, accepts_by};
-ghost use Rattle.builtin_names.specs.Named.{HasBuiltins, names_in};
+ghost use Rattle.builtin_names.specs.Named.{names_in};
 ghost use Rattle.laws_reading.specs.Kept as low;
 ghost use Rattle.phrase_form.specs.Held.{kept_in};
 ghost use Rattle.operator_levels.specs.Words.{gives_in, operator_in};
@@ -16,9 +16,8 @@ use crate::kept::Kept;
 use crate::negation::negated;
 use crate::operator::{Postfix, Prefix};
 use crate::terminal::PhraseKind;
-use builtin_names::name;
+use builtin_names::{Vocabulary, name};
 use expr_tree::{Expr, Exprs};
-use name_table::Names;
 use operator_levels::{Gives, Operator, result_of};
 use semantics::Builtin;
 use std::alloc::{AllocError, Global};
@@ -86,8 +85,13 @@ pub(crate) fn accepts(operator: Operator, kind: PhraseKind) -> bool
 }
 
 /// Two phrases in a row of their own.
-fn paired(alloc: Global, names: &Names, row: Builtin, x: Kept, y: Kept) -> Result<Kept, AllocError>
-    requires names { HasBuiltins names.now }
+fn paired(
+    alloc: Global,
+    names: &Vocabulary,
+    row: Builtin,
+    x: Kept,
+    y: Kept,
+) -> Result<Kept, AllocError>
     ensures { IfOk result (λ k. kept_in k ≡ low.whole (low.kept_pair (names_in names.now) row (kept_in x).expr (kept_in y).expr)) }
 {
     let left = x.into_expr(alloc)?;
@@ -105,8 +109,13 @@ fn called_with(alloc: Global, head: Kept, argument: Kept) -> Result<Kept, AllocE
 }
 
 /// What an operator that gives this makes of its operands.
-fn joined(alloc: Global, names: &Names, gives: Gives, x: Kept, y: Kept) -> Result<Kept, AllocError>
-    requires names { HasBuiltins names.now }
+fn joined(
+    alloc: Global,
+    names: &Vocabulary,
+    gives: Gives,
+    x: Kept,
+    y: Kept,
+) -> Result<Kept, AllocError>
     ensures { IfOk result (λ k. kept_in k ≡ low.kept_join (names_in names.now) (gives_in gives) (kept_in x) (kept_in y)) }
 {
     match gives {
@@ -133,20 +142,18 @@ fn joined(alloc: Global, names: &Names, gives: Gives, x: Kept, y: Kept) -> Resul
 /// What an infix operator gives.
 pub(crate) fn join(
     alloc: Global,
-    names: &Names,
+    names: &Vocabulary,
     operator: Operator,
     x: Kept,
     y: Kept,
 ) -> Result<Kept, AllocError>
-    requires names { HasBuiltins names.now }
     ensures { IfOk result (λ k. kept_in k ≡ low.kept_join (names_in names.now) (gives_of (operator_in operator)) (kept_in x) (kept_in y)) }
 {
     joined(alloc, names, result_of(operator), x, y)
 }
 
 /// A phrase under a row of its own.
-fn under(alloc: Global, names: &Names, row: Builtin, x: Kept) -> Result<Kept, AllocError>
-    requires names { HasBuiltins names.now }
+fn under(alloc: Global, names: &Vocabulary, row: Builtin, x: Kept) -> Result<Kept, AllocError>
     ensures { IfOk result (λ k. kept_in k ≡ low.whole (low.kept_one (names_in names.now) row (kept_in x).expr)) }
 {
     let expr = x.into_expr(alloc)?;
@@ -156,11 +163,10 @@ fn under(alloc: Global, names: &Names, row: Builtin, x: Kept) -> Result<Kept, Al
 /// What a prefix operator gives.
 pub(crate) fn lead(
     alloc: Global,
-    names: &Names,
+    names: &Vocabulary,
     operator: Prefix,
     x: Kept,
 ) -> Result<Kept, AllocError>
-    requires names { HasBuiltins names.now }
     ensures { IfOk result (λ k. kept_in k ≡ low.kept_lead (names_in names.now) (prefix_in operator) (kept_in x)) }
 {
     match operator {
@@ -186,19 +192,17 @@ fn trail_row(operator: Postfix) -> Builtin
 /// What a postfix operator gives.
 pub(crate) fn trail(
     alloc: Global,
-    names: &Names,
+    names: &Vocabulary,
     operator: Postfix,
     x: Kept,
 ) -> Result<Kept, AllocError>
-    requires names { HasBuiltins names.now }
     ensures { IfOk result (λ k. kept_in k ≡ (low.kept (names_in names.now)).of_trail (postfix_in operator) (kept_in x)) }
 {
     under(alloc, names, trail_row(operator), x)
 }
 
 /// `x;`.
-pub(crate) fn ended(alloc: Global, names: &Names, x: Kept) -> Result<Kept, AllocError>
-    requires names { HasBuiltins names.now }
+pub(crate) fn ended(alloc: Global, names: &Vocabulary, x: Kept) -> Result<Kept, AllocError>
     ensures { IfOk result (λ k. kept_in k ≡ (low.kept (names_in names.now)).of_end (kept_in x)) }
 {
     let null = name(names, Builtin::Null);
@@ -208,13 +212,12 @@ pub(crate) fn ended(alloc: Global, names: &Names, x: Kept) -> Result<Kept, Alloc
 /// `t /: l = r`, which gives the row.
 pub(crate) fn tagged(
     alloc: Global,
-    names: &Names,
+    names: &Vocabulary,
     row: Builtin,
     t: Kept,
     l: Kept,
     r: Kept,
 ) -> Result<Kept, AllocError>
-    requires names { HasBuiltins names.now }
     ensures { IfOk result (λ k. kept_in k ≡ (low.kept (names_in names.now)).of_tag row (kept_in t) (kept_in l) (kept_in r)) }
 {
     let tag = t.into_expr(alloc)?;
@@ -224,8 +227,11 @@ pub(crate) fn tagged(
 }
 
 /// `{xs}`.
-pub(crate) fn listed(alloc: Global, names: &Names, items: Option<Exprs>) -> Result<Kept, AllocError>
-    requires names { HasBuiltins names.now }
+pub(crate) fn listed(
+    alloc: Global,
+    names: &Vocabulary,
+    items: Option<Exprs>,
+) -> Result<Kept, AllocError>
     ensures { IfOk result (λ k. kept_in k ≡ (low.kept (names_in names.now)).of_list items) }
 {
     Ok(Kept::closed(list_under(alloc, names, Builtin::List, items)?))
@@ -245,11 +251,10 @@ pub(crate) fn call(
 /// `x[[xs]]`.
 pub(crate) fn part(
     alloc: Global,
-    names: &Names,
+    names: &Vocabulary,
     expr: Option<Expr>,
     items: Option<Exprs>,
 ) -> Result<Kept, AllocError>
-    requires names { HasBuiltins names.now }
     ensures { IfOk result (λ k. kept_in k ≡ (low.kept (names_in names.now)).of_part expr items) }
 {
     Ok(Kept::closed(parted(alloc, names, expr, items)?))

@@ -1,14 +1,13 @@
 //! Elements, and calls of rows.
 ghost use Rattle.std.specs.Prelude.{◌≡◌, ◌∷◌, [], IfOk};
 ghost use Rattle.semantics.specs.Names as n;
-ghost use Rattle.builtin_names.specs.Named.{HasBuiltins, names_in};
+ghost use Rattle.builtin_names.specs.Named.{names_in};
 ghost use Rattle.laws_reading.specs.Kept.{cut, kept_added, kept_list, kept_one, kept_pair, kept_triple, kept_part, kept_call, kept_apply, kept_inverse};
 
 use crate::kept::assembled;
-use builtin_names::name;
+use builtin_names::{Vocabulary, name};
 use expr_tree::{Expr, Exprs};
 use item_list::Items;
-use name_table::Names;
 use semantics::Builtin;
 use std::alloc::{AllocError, Global};
 
@@ -46,11 +45,10 @@ pub(crate) fn added(items: Option<Exprs>, item: Option<Expr>) -> Result<Option<E
 /// A call of a row.
 pub(crate) fn made(
     alloc: Global,
-    names: &Names,
+    names: &Vocabulary,
     row: Builtin,
     items: Exprs,
 ) -> Result<Option<Expr>, AllocError>
-    requires names { HasBuiltins names.now }
     ensures { IfOk result (λ e. e ≡ cut (n.make (names_in names.now) row items)) }
 {
     assembled(alloc, name(names, row), items)
@@ -59,11 +57,10 @@ pub(crate) fn made(
 /// A row of elements.
 pub(crate) fn list_under(
     alloc: Global,
-    names: &Names,
+    names: &Vocabulary,
     row: Builtin,
     items: Option<Exprs>,
 ) -> Result<Option<Expr>, AllocError>
-    requires names { HasBuiltins names.now }
     ensures { IfOk result (λ e. e ≡ kept_list (names_in names.now) row items) }
 {
     match items {
@@ -75,11 +72,10 @@ pub(crate) fn list_under(
 /// A row of one element.
 pub(crate) fn one_under(
     alloc: Global,
-    names: &Names,
+    names: &Vocabulary,
     row: Builtin,
     a: Option<Expr>,
 ) -> Result<Option<Expr>, AllocError>
-    requires names { HasBuiltins names.now }
     ensures { IfOk result (λ e. e ≡ kept_one (names_in names.now) row a) }
 {
     match a {
@@ -91,12 +87,11 @@ pub(crate) fn one_under(
 /// A row of two elements.
 pub(crate) fn two_under(
     alloc: Global,
-    names: &Names,
+    names: &Vocabulary,
     row: Builtin,
     a: Option<Expr>,
     b: Option<Expr>,
 ) -> Result<Option<Expr>, AllocError>
-    requires names { HasBuiltins names.now }
     ensures { IfOk result (λ e. e ≡ kept_pair (names_in names.now) row a b) }
 {
     match (a, b) {
@@ -108,13 +103,12 @@ pub(crate) fn two_under(
 /// A row of three elements.
 pub(crate) fn three_under(
     alloc: Global,
-    names: &Names,
+    names: &Vocabulary,
     row: Builtin,
     a: Option<Expr>,
     b: Option<Expr>,
     c: Option<Expr>,
 ) -> Result<Option<Expr>, AllocError>
-    requires names { HasBuiltins names.now }
     ensures { IfOk result (λ e. e ≡ kept_triple (names_in names.now) row a b c) }
 {
     let Some(c) = c else {
@@ -161,11 +155,10 @@ pub(crate) fn applied(
 /// `e[[es]]`.
 pub(crate) fn parted(
     alloc: Global,
-    names: &Names,
+    names: &Vocabulary,
     expr: Option<Expr>,
     items: Option<Exprs>,
 ) -> Result<Option<Expr>, AllocError>
-    requires names { HasBuiltins names.now }
     ensures { IfOk result (λ e. e ≡ kept_part (names_in names.now) expr items) }
 {
     match (expr, items) {
@@ -181,10 +174,9 @@ pub(crate) fn parted(
 /// 1 divided by it.
 pub(crate) fn inverse(
     alloc: Global,
-    names: &Names,
+    names: &Vocabulary,
     expr: Option<Expr>,
 ) -> Result<Option<Expr>, AllocError>
-    requires names { HasBuiltins names.now }
     ensures { IfOk result (λ e. e ≡ kept_inverse (names_in names.now) expr) }
 {
     match expr {

@@ -2,7 +2,7 @@
 ghost use Rattle.std.specs.Prelude.{◌≡◌, IfOk};
 ghost use Rattle.std.specs.Option.{option_map};
 ghost use Rattle.semantics.specs.Names as n;
-ghost use Rattle.builtin_names.specs.Named.{HasBuiltins, names_in};
+ghost use Rattle.builtin_names.specs.Named.{names_in};
 ghost use Rattle.phrase_form.specs.Held.{kept_in};
 ghost use Rattle.phrase_form.specs.States.{frames_in, mode_in};
 ghost use Rattle.phrase_form.specs.Steps as s;
@@ -12,7 +12,7 @@ use crate::frame::Mode;
 use crate::kept::Kept;
 use crate::reduce::reduce;
 use crate::stack::Stack;
-use name_table::Names;
+use builtin_names::Vocabulary;
 use std::alloc::{AllocError, Global};
 
 /// The phrase, where nothing stands open.
@@ -26,11 +26,10 @@ fn at_bottom(stack: &Stack, phrase: Kept) -> Option<Kept>
 #[tactic(auto, unfolding(syntax::proofs::Reader::finished))]
 pub(crate) fn finish(
     alloc: Global,
-    names: &Names,
+    names: &Vocabulary,
     stack: &mut Stack,
     mode: Mode,
 ) -> Result<Option<Kept>, AllocError>
-    requires names { HasBuiltins names.now }
     ensures { IfOk result (λ k. option_map kept_in k ≡ s.finished (names_in names.now) (mode_in (names_in names.now) mode) (frames_in (names_in names.now) stack.old)) }
 {
     match mode {

@@ -2,7 +2,7 @@
 ghost use Rattle.std.specs.Prelude.{◌≡◌, IfOk};
 ghost use Rattle.semantics.specs.Names as n;
 ghost use Rattle.syntax.specs.Terminals.{next_of};
-ghost use Rattle.builtin_names.specs.Named.{HasBuiltins, names_in};
+ghost use Rattle.builtin_names.specs.Named.{names_in};
 ghost use Rattle.phrase_form.specs.Held.{kept_in};
 ghost use Rattle.phrase_form.specs.States.{frames_in, opened_in, mode_in, after};
 ghost use Rattle.phrase_form.specs.Steps as s;
@@ -19,9 +19,9 @@ use crate::operator::trail_level;
 use crate::reduce::reduce;
 use crate::stack::Stack;
 use crate::terminal::Terminal;
+use builtin_names::Vocabulary;
 use expr_tree::Exprs;
 use item_list::Items;
-use name_table::Names;
 use operator_levels::{Operator, level};
 use std::alloc::{AllocError, Global};
 
@@ -45,12 +45,11 @@ fn level_of_next(next: Next) -> u8
 #[tactic(auto, using(crate::proofs::Frames::frame_steps), unfolding(syntax::proofs::Reader::goes_on, syntax::proofs::Reader::only_at))]
 fn go_on(
     alloc: Global,
-    names: &Names,
+    names: &Vocabulary,
     stack: &mut Stack,
     terminal: Terminal,
     phrase: Kept,
 ) -> Result<Option<Mode>, AllocError>
-    requires names { HasBuiltins names.now }
     ensures { IfOk result (λ m. after (names_in names.now) stack.new m ≡ s.goes_on (names_in names.now) (next_of (terminal_in terminal)) (terminal_in terminal) (frames_in (names_in names.now) stack.old) (kept_in phrase)) }
 {
     match next_of(&terminal) {
@@ -95,12 +94,11 @@ fn go_on(
 #[tactic(auto, unfolding(syntax::proofs::Reader::follows_phrase))]
 fn follow_phrase(
     alloc: Global,
-    names: &Names,
+    names: &Vocabulary,
     stack: &mut Stack,
     terminal: Terminal,
     phrase: Kept,
 ) -> Result<Option<Mode>, AllocError>
-    requires names { HasBuiltins names.now }
     ensures { IfOk result (λ m. after (names_in names.now) stack.new m ≡ s.follows_phrase (names_in names.now) (next_of (terminal_in terminal)) (terminal_in terminal) (frames_in (names_in names.now) stack.old) (kept_in phrase)) }
 {
     let level = level_of_next(next_of(&terminal));
@@ -112,12 +110,11 @@ fn follow_phrase(
 #[tactic(auto, unfolding(syntax::proofs::Reader::follows_semicolon))]
 fn follow_semicolon(
     alloc: Global,
-    names: &Names,
+    names: &Vocabulary,
     stack: &mut Stack,
     terminal: Terminal,
     phrase: Kept,
 ) -> Result<Option<Mode>, AllocError>
-    requires names { HasBuiltins names.now }
     ensures { IfOk result (λ m. after (names_in names.now) stack.new m ≡ s.follows_semicolon (names_in names.now) (next_of (terminal_in terminal)) (terminal_in terminal) (frames_in (names_in names.now) stack.old) (kept_in phrase)) }
 {
     match next_of(&terminal) {
@@ -146,12 +143,11 @@ fn follow_semicolon(
 #[tactic(auto, unfolding(syntax::proofs::Reader::follows_opening))]
 fn follow_opening(
     alloc: Global,
-    names: &Names,
+    names: &Vocabulary,
     stack: &mut Stack,
     terminal: Terminal,
     opening: Opened,
 ) -> Result<Option<Mode>, AllocError>
-    requires names { HasBuiltins names.now }
     ensures { IfOk result (λ m. after (names_in names.now) stack.new m ≡ s.follows_opening (names_in names.now) (next_of (terminal_in terminal)) (terminal_in terminal) (frames_in (names_in names.now) stack.old) (opened_in (names_in names.now) opening)) }
 {
     match next_of(&terminal) {
@@ -178,12 +174,11 @@ fn follow_opening(
 #[tactic(auto, unfolding(syntax::proofs::Reader::follows_half))]
 fn follow_half(
     alloc: Global,
-    names: &Names,
+    names: &Vocabulary,
     stack: &mut Stack,
     next: Next,
     items: Option<Exprs>,
 ) -> Result<Option<Mode>, AllocError>
-    requires names { HasBuiltins names.now }
     ensures { IfOk result (λ m. after (names_in names.now) stack.new m ≡ s.follows_half (names_in names.now) (next_in next) (frames_in (names_in names.now) stack.old) items) }
 {
     match next {
@@ -205,12 +200,11 @@ fn follow_half(
 #[tactic(auto, unfolding(syntax::proofs::Reader::follows))]
 pub(crate) fn follow(
     alloc: Global,
-    names: &Names,
+    names: &Vocabulary,
     stack: &mut Stack,
     mode: Mode,
     terminal: Terminal,
 ) -> Result<Option<Mode>, AllocError>
-    requires names { HasBuiltins names.now }
     ensures { IfOk result (λ m. after (names_in names.now) stack.new m ≡ s.follows (names_in names.now) (mode_in (names_in names.now) mode) (terminal_in terminal) (frames_in (names_in names.now) stack.old)) }
 {
     match mode {

@@ -1,7 +1,7 @@
 ghost use Rattle.std.specs.Prelude.{◌≡◌, IfOk};
 ghost use Rattle.std.specs.Option.{option_map};
 ghost use Rattle.semantics.specs.Names as n;
-ghost use Rattle.builtin_names.specs.Named.{HasBuiltins, names_in};
+ghost use Rattle.builtin_names.specs.Named.{names_in};
 ghost use Rattle.phrase_form.specs.Words.{terminal_in};
 ghost use Rattle.phrase_form.specs.Held.{kept_in};
 ghost use Rattle.phrase_form.specs.Machine.{start_at, step_at, finished_at, state_in, steps_to};
@@ -12,7 +12,7 @@ use crate::frame::Mode;
 use crate::kept::Kept;
 use crate::stack::Stack;
 use crate::terminal::Terminal;
-use name_table::Names;
+use builtin_names::Vocabulary;
 use std::alloc::{AllocError, Global};
 use std::mem;
 
@@ -45,10 +45,9 @@ impl Machine {
     pub fn step(
         &mut self,
         alloc: Global,
-        names: &Names,
+        names: &Vocabulary,
         terminal: Terminal,
     ) -> Result<Step, AllocError>
-        requires names { HasBuiltins names.now }
         ensures { IfOk result (λ s. steps_to (names_in names.now) s self.new ≡ step_at (names_in names.now) (terminal_in terminal) (state_in (names_in names.now) self.old)) }
     {
         let mode = mem::replace(&mut self.mode, Mode::Want);
@@ -62,8 +61,7 @@ impl Machine {
     }
 
     /// The phrase that the terminals are.
-    pub fn finish(self, alloc: Global, names: &Names) -> Result<Option<Kept>, AllocError>
-        requires names { HasBuiltins names.now }
+    pub fn finish(self, alloc: Global, names: &Vocabulary) -> Result<Option<Kept>, AllocError>
         ensures { IfOk result (λ k. option_map kept_in k ≡ finished_at (names_in names.now) (state_in (names_in names.now) self)) }
     {
         let Machine { mut stack, mode } = self;

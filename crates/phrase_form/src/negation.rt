@@ -2,7 +2,7 @@
 ghost use Rattle.std.specs.Prelude.{◌≡◌, IfOk};
 ghost use Rattle.semantics.specs.Names as n;
 ghost use Rattle.syntax.specs.Phrases.{negative, negated_elements, negated_product, negated_number, negated_by, negated_kind};
-ghost use Rattle.builtin_names.specs.Named.{HasBuiltins, names_in};
+ghost use Rattle.builtin_names.specs.Named.{names_in};
 ghost use Rattle.laws_reading.specs.Kept.{cut, negated_one, kept_negated};
 ghost use Rattle.phrase_form.specs.Held.{kept_in, natural_negated, first_negated};
 ghost use Rattle.phrase_form.specs.Words.{kind_in};
@@ -11,14 +11,13 @@ use crate::chain::is_same;
 use crate::elements::{made, one_item, two_items};
 use crate::kept::{Held, Kept, assembled, is_uncut};
 use crate::terminal::PhraseKind;
+use builtin_names::Vocabulary;
 use expr_tree::{Expr, Exprs, Node};
-use name_table::Names;
 use semantics::Builtin;
 use std::alloc::{AllocError, Global};
 
 /// The product with -1.
-fn negative(alloc: Global, names: &Names, expr: Expr) -> Result<Option<Expr>, AllocError>
-    requires names { HasBuiltins names.now }
+fn negative(alloc: Global, names: &Vocabulary, expr: Expr) -> Result<Option<Expr>, AllocError>
     ensures { IfOk result (λ e. e ≡ cut (negative (names_in names.now) expr)) }
 {
     let items = two_items(alloc, Expr::int(-1), expr)?;
@@ -38,8 +37,7 @@ fn negated_natural(expr: &Expr) -> Option<Expr>
 
 /// A number token behind a minus sign.
 #[tactic(auto, using(crate::proofs::Negations::negation_steps))]
-fn negated_number(alloc: Global, names: &Names, expr: Expr) -> Result<Option<Expr>, AllocError>
-    requires names { HasBuiltins names.now }
+fn negated_number(alloc: Global, names: &Vocabulary, expr: Expr) -> Result<Option<Expr>, AllocError>
     ensures { IfOk result (λ e. e ≡ cut (negated_number (names_in names.now) expr)) }
 {
     match negated_natural(&expr) {
@@ -82,8 +80,11 @@ fn negated_factors(alloc: Global, items: Exprs) -> Result<Exprs, AllocError>
 
 /// A product behind a minus sign.
 #[tactic(auto, using(expr_tree::proofs::Callers::tree_steps))]
-fn negated_product(alloc: Global, names: &Names, expr: Expr) -> Result<Option<Expr>, AllocError>
-    requires names { HasBuiltins names.now }
+fn negated_product(
+    alloc: Global,
+    names: &Vocabulary,
+    expr: Expr,
+) -> Result<Option<Expr>, AllocError>
     ensures { IfOk result (λ e. e ≡ cut (negated_product (names_in names.now) expr)) }
 {
     match expr.into_node(alloc)? {
@@ -100,11 +101,10 @@ fn negated_product(alloc: Global, names: &Names, expr: Expr) -> Result<Option<Ex
 /// An expression behind a minus sign.
 fn negated_expr(
     alloc: Global,
-    names: &Names,
+    names: &Vocabulary,
     kind: PhraseKind,
     expr: Expr,
 ) -> Result<Option<Expr>, AllocError>
-    requires names { HasBuiltins names.now }
     ensures { IfOk result (λ e. e ≡ cut (negated_by (names_in names.now) (kind_in kind) expr)) }
 {
     match kind {
@@ -123,11 +123,10 @@ fn negated_expr(
 /// What is kept of an expression behind a minus sign.
 fn negated_one(
     alloc: Global,
-    names: &Names,
+    names: &Vocabulary,
     kind: PhraseKind,
     expr: Option<Expr>,
 ) -> Result<Option<Expr>, AllocError>
-    requires names { HasBuiltins names.now }
     ensures { IfOk result (λ e. e ≡ negated_one (names_in names.now) expr (kind_in kind)) }
 {
     match expr {
@@ -149,8 +148,7 @@ fn negated_kind(kind: PhraseKind) -> PhraseKind
 }
 
 /// A phrase behind a minus sign.
-pub(crate) fn negated(alloc: Global, names: &Names, x: Kept) -> Result<Kept, AllocError>
-    requires names { HasBuiltins names.now }
+pub(crate) fn negated(alloc: Global, names: &Vocabulary, x: Kept) -> Result<Kept, AllocError>
     ensures { IfOk result (λ k. kept_in k ≡ kept_negated (names_in names.now) (kept_in x)) }
 {
     let kind = x.kind;

@@ -5,14 +5,14 @@ ghost use Rattle.script_text.specs.Bytes.{in_name, run};
 ghost use Rattle.script_text.specs.Spelling.{place_in};
 ghost use Rattle.syntax.specs.Leaves as leaf;
 ghost use Rattle.syntax.specs.Tokens.{blank_names, nonempty};
-ghost use Rattle.builtin_names.specs.Named.{HasBuiltins, names_in};
+ghost use Rattle.builtin_names.specs.Named.{names_in};
 ghost use Rattle.read_form.specs.Kept.{AreKeptNames};
 
 use crate::forms::{form, one, two};
 use crate::leaves::name_leaf;
+use builtin_names::Vocabulary;
 use expr_tree::{Expr, Exprs};
 use item_list::Items;
-use name_table::Names;
 use semantics::Builtin;
 use std::alloc::{AllocError, Global};
 
@@ -67,7 +67,7 @@ fn blank_row(marks: usize) -> Builtin
 
 /// The head that is asked for behind the `_`, if there is one.
 #[tactic(auto, using(crate::proofs::BlankParts::blank_steps))]
-fn head_of(alloc: Global, names: &Names, word: &[u8]) -> Result<Exprs, AllocError>
+fn head_of(alloc: Global, names: &Vocabulary, word: &[u8]) -> Result<Exprs, AllocError>
     requires ascii { IsAscii word.now }
     requires kept { AreKeptNames names.now.texts (nonempty word.now) }
     ensures { IfOk result (λ items. items ≡ leaf.blank_head (names_in names.now) (place_in names.now.texts) word.now) }
@@ -80,8 +80,7 @@ fn head_of(alloc: Global, names: &Names, word: &[u8]) -> Result<Exprs, AllocErro
 
 /// The pattern under the name in front of the `_`, if there is one.
 #[tactic(auto, using(crate::proofs::BlankParts::blank_steps))]
-fn named(alloc: Global, names: &Names, word: &[u8], pattern: Expr) -> Result<Expr, AllocError>
-    requires names { HasBuiltins names.now }
+fn named(alloc: Global, names: &Vocabulary, word: &[u8], pattern: Expr) -> Result<Expr, AllocError>
     requires ascii { IsAscii word.now }
     requires kept { AreKeptNames names.now.texts (nonempty word.now) }
     requires small { size pattern ≤ 5 }
@@ -97,8 +96,7 @@ fn named(alloc: Global, names: &Names, word: &[u8], pattern: Expr) -> Result<Exp
 
 /// What a blank stands for.
 #[tactic(auto, using(crate::proofs::BlankParts::blank_steps))]
-pub(crate) fn blank_leaf(alloc: Global, names: &Names, word: &[u8]) -> Result<Expr, AllocError>
-    requires names { HasBuiltins names.now }
+pub(crate) fn blank_leaf(alloc: Global, names: &Vocabulary, word: &[u8]) -> Result<Expr, AllocError>
     requires ascii { IsAscii word.now }
     requires kept { AreKeptNames names.now.texts (blank_names word.now) }
     ensures { IfOk result (λ e. e ≡ leaf.blank_leaf (names_in names.now) (place_in names.now.texts) word.now) }

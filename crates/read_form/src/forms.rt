@@ -2,12 +2,11 @@
 ghost use Rattle.std.specs.Prelude.{◌≡◌, ◌≤◌, ◌∷◌, [], IfOk};
 ghost use Rattle.expr_tree.specs.Tree.{trees, sizes, depths};
 ghost use Rattle.semantics.specs.Names as n;
-ghost use Rattle.builtin_names.specs.Named.{HasBuiltins, names_in};
+ghost use Rattle.builtin_names.specs.Named.{names_in};
 
-use builtin_names::make;
+use builtin_names::{Vocabulary, make};
 use expr_tree::{Built, Expr, Exprs};
 use item_list::Items;
-use name_table::Names;
 use semantics::Builtin;
 use std::alloc::{AllocError, Global};
 
@@ -32,11 +31,10 @@ pub(crate) fn two(alloc: Global, first: Expr, second: Expr) -> Result<Exprs, All
 /// The expression of a row and a few elements, which are small.
 pub(crate) fn form(
     alloc: Global,
-    names: &Names,
+    names: &Vocabulary,
     row: Builtin,
     items: Exprs,
 ) -> Result<Expr, AllocError>
-    requires names { HasBuiltins names.now }
     requires small { sizes (trees items) ≤ 10 }
     requires shallow { depths (trees items) ≤ 10 }
     ensures { IfOk result (λ e. e ≡ n.make (names_in names.now) row items) }

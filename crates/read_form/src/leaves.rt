@@ -5,14 +5,14 @@ ghost use Rattle.script_text.specs.Bytes.{begins_with, number_after};
 ghost use Rattle.script_text.specs.Spelling.{place_in, spelled};
 ghost use Rattle.semantics.specs.Names as n;
 ghost use Rattle.syntax.specs.Leaves as leaf;
-ghost use Rattle.builtin_names.specs.Named.{HasBuiltins, names_in};
+ghost use Rattle.builtin_names.specs.Named.{names_in};
 ghost use Rattle.lex_form.specs.Shapes.{slot_number};
 
 use crate::forms::{form, one};
 use crate::numbers::{integer_of, integer_or_one};
 use crate::strings::text_of;
+use builtin_names::Vocabulary;
 use expr_tree::Expr;
-use name_table::Names;
 use semantics::Builtin;
 use std::alloc::{AllocError, Global};
 use std::str;
@@ -35,13 +35,13 @@ pub(crate) fn string_leaf(alloc: Global, word: &str) -> Result<Expr, AllocError>
 }
 
 /// The symbol that a name is read as.
-pub(crate) fn name_leaf(names: &Names, word: &[u8]) -> Expr
+pub(crate) fn name_leaf(names: &Vocabulary, word: &[u8]) -> Expr
     requires ascii { IsAscii word.now }
     requires kept { place_in names.now.texts (spelled word.now).base < length names.now.texts }
     ensures { result ≡ leaf.name_leaf (names_in names.now) (place_in names.now.texts) word.now }
 {
     match str::from_utf8(word) {
-        Ok(name) => match names.find(name) {
+        Ok(name) => match names.names().find(name) {
             Some(symbol) => Expr::symbol(symbol),
             None => unreachable!(),
         },
@@ -50,8 +50,7 @@ pub(crate) fn name_leaf(names: &Names, word: &[u8]) -> Expr
 }
 
 /// The form of a slot: its row, and the number that the digits write.
-fn slot(alloc: Global, names: &Names, row: Builtin, digits: &[u8]) -> Result<Expr, AllocError>
-    requires names { HasBuiltins names.now }
+fn slot(alloc: Global, names: &Vocabulary, row: Builtin, digits: &[u8]) -> Result<Expr, AllocError>
     requires number { leaf.number_or_one digits.now < 2 ^ 127 }
     ensures { IfOk result (λ e. e ≡ n.make (names_in names.now) row (integer (pos (leaf.number_or_one digits.now)) ∷ [])) }
 {
@@ -60,8 +59,7 @@ fn slot(alloc: Global, names: &Names, row: Builtin, digits: &[u8]) -> Result<Exp
 }
 
 /// What a slot token stands for.
-pub(crate) fn slot_leaf(alloc: Global, names: &Names, word: &[u8]) -> Result<Expr, AllocError>
-    requires names { HasBuiltins names.now }
+pub(crate) fn slot_leaf(alloc: Global, names: &Vocabulary, word: &[u8]) -> Result<Expr, AllocError>
     requires some { 0 < length word.now }
     requires number { slot_number word.now < 2 ^ 127 }
     ensures { IfOk result (λ e. e ≡ leaf.slot_leaf (names_in names.now) (place_in names.now.texts) word.now) }

@@ -1,22 +1,19 @@
 ghost use Rattle.std.specs.Prelude.{◌≡◌, IfOk};
 ghost use Rattle.syntax.specs.Tokens as syn;
 ghost use Rattle.lex_form.specs.Lexes as form;
-ghost use Rattle.builtin_names.specs.Named.{HasBuiltins};
 ghost use Rattle.read_form.specs.Kept.{AreKeptNames};
 
 use crate::{ReadNo, read_lexed};
-use builtin_names::names_with;
+use builtin_names::{Vocabulary, names_with};
 use expr_tree::Expr;
 use item_list::Items;
 use lex_form::{Lexed, lex, names_of};
-use name_table::Names;
 use std::alloc::Global;
 use std::test::Fail;
 
 /// The names of the built-in table and of a cell.
-fn names_for(alloc: Global, cell: &str, lexed: &Lexed) -> Result<Names, Fail>
+fn names_for(alloc: Global, cell: &str, lexed: &Lexed) -> Result<Vocabulary, Fail>
     requires { form.lexed lexed.now ≡ syn.lex cell.now }
-    ensures rows { IfOk result (λ names. HasBuiltins names) }
     ensures kept { IfOk result (λ names. AreKeptNames names.texts (syn.names_in cell.now (syn.lex cell.now).tokens)) }
 {
     let mut texts = Items::new(alloc);

@@ -4,7 +4,7 @@ ghost use Rattle.script_text.specs.Spelling.{place_in};
 ghost use Rattle.syntax.specs.Leaves as leaf;
 ghost use Rattle.syntax.specs.Terminals as ter;
 ghost use Rattle.syntax.specs.Tokens.{token_names, token_text};
-ghost use Rattle.builtin_names.specs.Named.{HasBuiltins, names_in};
+ghost use Rattle.builtin_names.specs.Named.{names_in};
 ghost use Rattle.lex_form.specs.Lexes.{token_of};
 ghost use Rattle.lex_form.specs.Scans.{kind_of};
 ghost use Rattle.lex_form.specs.Shapes.{IsToken, IsQuoted};
@@ -15,9 +15,9 @@ ghost use Rattle.read_form.specs.Pieces.{lexeme_at};
 use crate::blanks::blank_leaf;
 use crate::leaves::{name_leaf, number_leaf, slot_leaf, string_leaf};
 use crate::signs::sign_of;
+use builtin_names::Vocabulary;
 use expr_tree::Expr;
 use lex_form::{Kind, Token};
-use name_table::Names;
 use phrase_form::{Phrase, PhraseKind, Terminal, Word};
 use std::alloc::{AllocError, Global};
 
@@ -41,8 +41,7 @@ fn closed(expr: Expr) -> Word
 }
 
 /// What a token is by itself.
-fn word_of(alloc: Global, names: &Names, text: &str, token: Token) -> Result<Word, AllocError>
-    requires names { HasBuiltins names.now }
+fn word_of(alloc: Global, names: &Vocabulary, text: &str, token: Token) -> Result<Word, AllocError>
     requires token { IsToken text.now 0 (token_of token) }
     requires kept { AreKeptNames names.now.texts (token_names (kind_of token.kind) (token_text text.now (token_of token))) }
     ensures { IfOk result (λ word. word_in word ≡ ter.word_of (names_in names.now) (place_in names.now.texts) (kind_of token.kind) (token_text text.now (token_of token))) }
@@ -79,12 +78,11 @@ fn has_feed(text: &[u8]) -> bool
 /// The terminal of a token, where the one before ends at a place.
 pub(crate) fn terminal_of(
     alloc: Global,
-    names: &Names,
+    names: &Vocabulary,
     text: &str,
     at: usize,
     token: Token,
 ) -> Result<Terminal, AllocError>
-    requires names { HasBuiltins names.now }
     requires token { IsToken text.now at (token_of token) }
     requires kept { AreKeptNames names.now.texts (token_names (kind_of token.kind) (token_text text.now (token_of token))) }
     ensures { IfOk result (λ terminal. terminal_in terminal ≡ ter.terminal (names_in names.now) (place_in names.now.texts) (lexeme_at text.now at (token_of token))) }

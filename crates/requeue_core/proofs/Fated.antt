@@ -1,8 +1,8 @@
 -- The fate of an item and the status that it then has.
 use Rattle.std.proofs.Common.{◌≡◌, refl, ap, ℕ, Bool, true, false, eqb-true}
 use Rattle.std.specs.Prelude.{◌==◌}
-use Rattle.journal.specs.Entry.{Item}
-use Rattle.journal.specs.Core.{Status}
+use Rattle.journal.specs.declared.item.Item.{Item}
+use Rattle.journal.specs.declared.item.Status.{Status}
 use Rattle.requeue_core.specs.declared.lost.Fate.{Fate}
 use Rattle.requeue_core.specs.Fates.{fate_in, CanBecome}
 

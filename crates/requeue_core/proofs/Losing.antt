@@ -4,9 +4,10 @@ use Rattle.std.specs.Prelude.{◌==◌}
 use Rattle.std.specs.Option.{option_to_list}
 use Rattle.expr_tree.specs.Tree.{Tree}
 use Rattle.journal.specs.declared.recover.Recover.{Recover}
-use Rattle.journal.specs.Entry.{Item}
-use Rattle.journal.specs.Core.{Setup, Status, fate, abandoned, failed}
-use Rattle.eval_queue.specs.Items.{Kept}
+use Rattle.journal.specs.declared.item.Item.{Item}
+use Rattle.journal.specs.declared.item.Status.{Status}
+use Rattle.journal.specs.Core.{Setup, fate, abandoned, failed}
+use Rattle.eval_queue.specs.declared.kept.Kept.{Kept}
 use Rattle.requeue_core.specs.declared.lost.Fate.{Fate}
 use Rattle.requeue_core.specs.Losses.{lost, attempts, handed, runs_shared}
 use Rattle.requeue_core.specs.Fates.{fate_in, becoming, returned, spent, walked}

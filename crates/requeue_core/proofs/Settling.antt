@@ -6,9 +6,10 @@ use Rattle.std.proofs.lemmas.Bool.{ne_eqb}
 use Rattle.std.proofs.lemmas.List.{drop_all}
 use Rattle.expr_tree.specs.Tree.{Tree}
 use Rattle.journal.specs.Places.{nth, each_from, is_some}
-use Rattle.journal.specs.Entry.{Item}
-use Rattle.journal.specs.Core.{Status}
-use Rattle.eval_queue.specs.Items.{Kept, kept_at, item_at, status_at, changed, with_status}
+use Rattle.journal.specs.declared.item.Item.{Item}
+use Rattle.journal.specs.declared.item.Status.{Status}
+use Rattle.eval_queue.specs.declared.kept.Kept.{Kept}
+use Rattle.eval_queue.specs.Items.{kept_at, item_at, status_at, changed, with_status}
 use Rattle.requeue_core.specs.declared.lost.Fate.{Fate}
 use Rattle.requeue_core.specs.Fates.{fate_in, becoming, settled, settled_at, spent_at, spent, walked}
 

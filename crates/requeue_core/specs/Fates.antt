@@ -8,9 +8,9 @@
 --     walked                all items, one after the other
 use Rattle.std.specs.Prelude.{◌≡◌, ℕ, List, [], ◌∷◌, true, false, ◌==◌, Option, Some, None, ⊤}
 use Rattle.expr_tree.specs.Tree.{Tree}
-use Rattle.journal.specs.Entry.{Item}
-use Rattle.journal.specs.Core.{Status}
-use Rattle.eval_queue.specs.Items.{Kept}
+use Rattle.journal.specs.declared.item.Item.{Item}
+use Rattle.journal.specs.declared.item.Status.{Status}
+use Rattle.eval_queue.specs.declared.kept.Kept.{Kept}
 use Rattle.requeue_core.specs.declared.lost.Fate.{Fate}
 
 abbrev pub waiting_fate : ℕ → Item → Fate

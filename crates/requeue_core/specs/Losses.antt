@@ -7,9 +7,10 @@ use Rattle.std.specs.Prelude.{ℕ, List, [], ◌∷◌, map, Bool, true, false, 
 use Rattle.expr_tree.specs.Tree.{Tree}
 use Rattle.journal.specs.declared.recover.Recover.{Recover}
 use Rattle.journal.specs.Places.{nth}
-use Rattle.journal.specs.Entry.{Item}
-use Rattle.journal.specs.Core.{Setup, Status, fate, runs_on, abandoned}
-use Rattle.eval_queue.specs.Items.{Kept}
+use Rattle.journal.specs.declared.item.Item.{Item}
+use Rattle.journal.specs.declared.item.Status.{Status}
+use Rattle.journal.specs.Core.{Setup, fate, runs_on, abandoned}
+use Rattle.eval_queue.specs.declared.kept.Kept.{Kept}
 
 abbrev pub lives_in : List Bool → ℕ → Bool
 lives_in ks k = elim (nth ks k) [ None ↦ false | Some b ↦ b ]

@@ -3,7 +3,7 @@ ghost use Rattle.std.specs.Option.{option_to_list};
 ghost use Rattle.expr_tree.specs.Tree.{symbol};
 ghost use Rattle.journal.specs.Places.{change_at};
 ghost use Rattle.journal.specs.Core as core;
-ghost use Rattle.journal.specs.Entry as journal;
+ghost use Rattle.journal.specs.declared.event.Event.TheVariants.{Lose};
 ghost use Rattle.journal.specs.declared.loss.Loss.{Loss};
 ghost use Rattle.crit_locks.specs.Holdings.{without, HeldAfter};
 ghost use Rattle.requeue_core.specs.Losses.{lives_in, lost, handed};
@@ -77,7 +77,7 @@ impl Kernels {
         requires { lives_in self.old k ≡ true }
         ensures kernels { self.new ≡ change_at k (λ _. false) self.old }
         ensures free { locks.new ≡ record locks.old { held = without k locks.old.held } }
-        ensures locks { (cause : Loss) → HeldAfter (journal.Event.Lose cause) k locks.old.held locks.new.held }
+        ensures locks { (cause : Loss) → HeldAfter (Lose cause) k locks.old.held locks.new.held }
         ensures items { (set : core.Setup) → core.failed set.names ≡ symbol failed → handed set k queue.old ≡ option_to_list abandoned → queue.new ≡ map (lost set k) queue.old }
     {
         settle_all(queue, k, failed, abandoned);

@@ -1,14 +1,15 @@
 //! What a loss does to items.
 ghost use Rattle.std.specs.Prelude.{◌≡◌, [], Some};
 ghost use Rattle.expr_tree.specs.Tree.{symbol};
-ghost use Rattle.journal.specs.Entry as journal;
+ghost use Rattle.journal.specs.declared.item.Item.TheVariants.{Batch};
+ghost use Rattle.journal.specs.declared.item.Status.TheVariants.{Running};
 ghost use Rattle.journal.specs.Places.{each_from};
-ghost use Rattle.journal.specs.Core.{Status};
-ghost use Rattle.eval_queue.specs.Items.{item_of, status_of, kept_at, status_at, with_status};
+ghost use Rattle.eval_queue.specs.Items.{kept_at, status_at, with_status};
 ghost use Rattle.requeue_core.specs.Fates.{waiting_fate, running_fate, fate_in, CanBecome, returned, settled_at, spent_at, walked};
 
-use eval_queue::{Item, Queue, State};
+use eval_queue::Queue;
 use expr_tree::{Expr, Sym};
+use journal::{Item, Status};
 
 /// What becomes of an item where a kernel is lost.
 #[derive(Clone, Copy, Debug)]
@@ -23,7 +24,7 @@ pub enum Fate {
 }
 
 fn waiting_fate(item: &Item, k: u32) -> Fate
-    ensures { result ≡ waiting_fate k (item_of item.now) }
+    ensures { result ≡ waiting_fate k item.now }
 {
     match item {
         Item::Plain(_) => Fate::Stays,
@@ -39,13 +40,13 @@ fn waiting_fate(item: &Item, k: u32) -> Fate
 }
 
 fn returning(on: u32, k: u32) -> Fate
-    ensures { result ≡ running_fate k (journal.Item.Batch []) on }
+    ensures { result ≡ running_fate k (Batch []) on }
 {
     if on == k { Fate::Returns } else { Fate::Stays }
 }
 
 fn running_fate(item: &Item, on: u32, k: u32) -> Fate
-    ensures { result ≡ running_fate k (item_of item.now) on }
+    ensures { result ≡ running_fate k item.now on }
 {
     match item {
         Item::Plain(_) => returning(on, k),
@@ -61,21 +62,21 @@ fn running_fate(item: &Item, on: u32, k: u32) -> Fate
 }
 
 #[tactic(auto, using(crate::proofs::Fated::can_become))]
-fn fate_of(item: &Item, state: &State, k: u32) -> Fate
-    ensures value { result ≡ fate_in k (item_of item.now) (status_of state.now) }
-    ensures can { CanBecome k result (status_of state.now) }
+fn fate_of(item: &Item, status: &Status, k: u32) -> Fate
+    ensures value { result ≡ fate_in k item.now status.now }
+    ensures can { CanBecome k result status.now }
 {
-    match state {
-        State::Waiting => waiting_fate(item, k),
-        State::Running(on) => running_fate(item, *on, k),
-        State::Done(_) => Fate::Stays,
-        State::Dropped => Fate::Stays,
+    match status {
+        Status::Waiting => waiting_fate(item, k),
+        Status::Running(on) => running_fate(item, *on, k),
+        Status::Done(_) => Fate::Stays,
+        Status::Dropped => Fate::Stays,
     }
 }
 
 /// The item, which the kernel runs, gets the value that is left, or waits again.
 fn return_item<T: Drop>(queue: &mut Queue<T>, id: u64, k: u32, left: Option<Expr>)
-    requires { status_at queue.old id ≡ Some (Status.Running k) }
+    requires { status_at queue.old id ≡ Some (Running k) }
     ensures { queue.new ≡ with_status id (returned left) queue.old }
 {
     match left {
@@ -99,10 +100,10 @@ fn settle<T: Drop>(
     let Some(item) = queue.item(id) else {
         return left;
     };
-    let Some(state) = queue.state(id) else {
+    let Some(status) = queue.state(id) else {
         return left;
     };
-    match fate_of(item, state, k) {
+    match fate_of(item, status, k) {
         Fate::Stays => left,
         Fate::Returns => {
             return_item(queue, id, k, left);

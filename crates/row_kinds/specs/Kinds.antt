@@ -5,6 +5,7 @@
 --     is_worked             whether it is one of any sort
 --     has_form, is_iteration, is_change, is_matching, is_replacing      whether it has a machine of that sort
 --     has_machine           whether it has one of any sort
+--     is_outward            whether it throws, catches, or is a row of the mode table
 --     is_unbuilt            whether its name keeps a cell from being evaluated
 use Rattle.std.specs.Prelude.{Bool, true, false}
 use Rattle.semantics.specs.declared.builtin.Builtin.{Builtin}
@@ -51,8 +52,8 @@ kind_of Builtin.While = Kind.Form
 kind_of Builtin.Do = Kind.Iteration
 kind_of Builtin.Table = Kind.Iteration
 kind_of Builtin.Sum = Kind.Iteration
-kind_of Builtin.Throw = Kind.Unbuilt
-kind_of Builtin.Catch = Kind.Unbuilt
+kind_of Builtin.Throw = Kind.Outward
+kind_of Builtin.Catch = Kind.Outward
 kind_of Builtin.Hold = Kind.Plain
 kind_of Builtin.HoldComplete = Kind.Plain
 kind_of Builtin.HoldPattern = Kind.Plain
@@ -161,22 +162,22 @@ kind_of Builtin.StringJoin = Kind.Strings
 kind_of Builtin.StringLength = Kind.Strings
 kind_of Builtin.Characters = Kind.Strings
 kind_of Builtin.StringReverse = Kind.Strings
-kind_of Builtin.ParallelSubmit = Kind.Unbuilt
-kind_of Builtin.ParallelTable = Kind.Unbuilt
-kind_of Builtin.ParallelDo = Kind.Unbuilt
-kind_of Builtin.ParallelSum = Kind.Unbuilt
-kind_of Builtin.ParallelEvaluate = Kind.Unbuilt
-kind_of Builtin.CriticalSection = Kind.Unbuilt
-kind_of Builtin.DistributeDefinitions = Kind.Unbuilt
-kind_of Builtin.SetSharedVariable = Kind.Unbuilt
-kind_of Builtin.SetSharedFunction = Kind.Unbuilt
-kind_of Builtin.ParallelMap = Kind.Unbuilt
-kind_of Builtin.ParallelCombine = Kind.Unbuilt
-kind_of Builtin.ParallelTry = Kind.Unbuilt
-kind_of Builtin.WaitAll = Kind.Unbuilt
-kind_of Builtin.WaitNext = Kind.Unbuilt
-kind_of Builtin.Print = Kind.Unbuilt
-kind_of Builtin.Quit = Kind.Unbuilt
+kind_of Builtin.ParallelSubmit = Kind.Outward
+kind_of Builtin.ParallelTable = Kind.Outward
+kind_of Builtin.ParallelDo = Kind.Outward
+kind_of Builtin.ParallelSum = Kind.Outward
+kind_of Builtin.ParallelEvaluate = Kind.Outward
+kind_of Builtin.CriticalSection = Kind.Outward
+kind_of Builtin.DistributeDefinitions = Kind.Outward
+kind_of Builtin.SetSharedVariable = Kind.Outward
+kind_of Builtin.SetSharedFunction = Kind.Outward
+kind_of Builtin.ParallelMap = Kind.Outward
+kind_of Builtin.ParallelCombine = Kind.Outward
+kind_of Builtin.ParallelTry = Kind.Outward
+kind_of Builtin.WaitAll = Kind.Outward
+kind_of Builtin.WaitNext = Kind.Outward
+kind_of Builtin.Print = Kind.Outward
+kind_of Builtin.Quit = Kind.Outward
 kind_of Builtin.KernelID = Kind.KernelName
 kind_of Builtin.KernelCount = Kind.KernelName
 
@@ -280,8 +281,15 @@ has_machine_kind _ = false
 abbrev pub has_machine : Builtin → Bool
 has_machine row = has_machine_kind (kind_of row)
 
+abbrev pub is_outward_kind : Kind → Bool
+is_outward_kind Kind.Outward = true
+is_outward_kind _ = false
+
+abbrev pub is_outward : Builtin → Bool
+is_outward row = is_outward_kind (kind_of row)
+
 abbrev pub is_unbuilt_kind : Kind → Bool
-is_unbuilt_kind Kind.Unbuilt = true
+is_unbuilt_kind Kind.Outward = true
 is_unbuilt_kind Kind.KernelName = true
 is_unbuilt_kind _ = false
 

@@ -4,13 +4,12 @@
 
 ghost use Rattle.std.specs.Prelude.{◌≡◌, IfSome, is_some};
 ghost use Rattle.semantics.specs.Table.{worked};
-ghost use Rattle.builtin_names.specs.Named.{HasBuiltins, names_in};
+ghost use Rattle.builtin_names.specs.Named.{names_in};
 ghost use Rattle.builtin_names.specs.Results.{Works};
 ghost use Rattle.row_kinds.specs.Kinds.{is_worked};
 
-use builtin_names::Fault;
+use builtin_names::{Fault, Vocabulary};
 use expr_tree::{Expr, Exprs};
-use name_table::Names;
 use row_kinds::{Kind, kind_of};
 use semantics::Builtin;
 use std::alloc::Global;
@@ -19,10 +18,9 @@ use std::alloc::Global;
 pub fn rewrite(
     alloc: Global,
     row: Builtin,
-    names: &Names,
+    names: &Vocabulary,
     items: &Exprs,
 ) -> Option<Result<Option<Expr>, Fault>>
-    requires names { HasBuiltins names.now }
     ensures known { is_some result ≡ is_worked row }
     ensures value { IfSome result (λ r. Works (worked (names_in names.now) row items.now) r) }
 {
@@ -39,6 +37,6 @@ pub fn rewrite(
         | Kind::Change
         | Kind::Matching
         | Kind::Replacing
-        | Kind::Unbuilt => None,
+        | Kind::Outward => None,
     }
 }

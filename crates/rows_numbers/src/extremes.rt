@@ -3,13 +3,12 @@ ghost use Rattle.std.specs.Prelude.{◌≡◌, Some, [], ◌∷◌, int_lt};
 ghost use Rattle.std.specs.Option.{option_map};
 ghost use Rattle.expr_tree.specs.Tree.{trees};
 ghost use Rattle.semantics.specs.Numbers as n;
-ghost use Rattle.builtin_names.specs.Named.{HasBuiltins, names_in};
+ghost use Rattle.builtin_names.specs.Named.{names_in};
 ghost use Rattle.builtin_names.specs.Results.{Works};
 ghost use Rattle.rows_numbers.specs.Better.{better, kept};
 
-use builtin_names::{Fault, is_name};
+use builtin_names::{Fault, Vocabulary, is_name};
 use expr_tree::{Expr, Exprs, Node};
-use name_table::Names;
 use semantics::Builtin;
 
 /// Which of some integers is looked for.
@@ -36,8 +35,12 @@ fn better_of(extreme: Extreme, best: Option<i128>, number: i128) -> i128
 /// something else stands there.
 #[cycle(extreme)]
 #[tactic(auto, using(crate::proofs::Kept::kept_steps))]
-fn best_in(names: &Names, extreme: Extreme, best: Option<i128>, e: &Expr) -> Option<Option<i128>>
-    requires names { HasBuiltins names.now }
+fn best_in(
+    names: &Vocabulary,
+    extreme: Extreme,
+    best: Option<i128>,
+    e: &Expr,
+) -> Option<Option<i128>>
     ensures { result ≡ option_map (kept (better extreme) best) (n.integers_in (names_in names.now) e.now) }
 {
     match e.node() {
@@ -52,12 +55,11 @@ fn best_in(names: &Names, extreme: Extreme, best: Option<i128>, e: &Expr) -> Opt
 #[cycle(extreme)]
 #[tactic(auto, using(crate::proofs::Kept::kept_steps))]
 fn best_of(
-    names: &Names,
+    names: &Vocabulary,
     extreme: Extreme,
     before: Option<i128>,
     items: &[Expr],
 ) -> Option<Option<i128>>
-    requires names { HasBuiltins names.now }
     ensures { result ≡ option_map (kept (better extreme) before) (n.all_integers (names_in names.now) (trees items.now)) }
 {
     let mut best = before;
@@ -68,8 +70,7 @@ fn best_of(
 }
 
 #[tactic(auto, using(crate::proofs::Kept::extreme_steps))]
-fn row_extreme(names: &Names, extreme: Extreme, items: &Exprs) -> Result<Option<Expr>, Fault>
-    requires names { HasBuiltins names.now }
+fn row_extreme(names: &Vocabulary, extreme: Extreme, items: &Exprs) -> Result<Option<Expr>, Fault>
     ensures { Works (n.extreme (names_in names.now) (better extreme) items.now) result }
 {
     match best_of(names, extreme, None, items.as_slice()) {
@@ -79,16 +80,14 @@ fn row_extreme(names: &Names, extreme: Extreme, items: &Exprs) -> Result<Option<
 }
 
 /// `Max`. That of no integers stays.
-pub fn row_max(names: &Names, items: &Exprs) -> Result<Option<Expr>, Fault>
-    requires names { HasBuiltins names.now }
+pub fn row_max(names: &Vocabulary, items: &Exprs) -> Result<Option<Expr>, Fault>
     ensures { Works (n.extreme (names_in names.now) (λ m k. int_lt k m) items.now) result }
 {
     row_extreme(names, Extreme::Greatest, items)
 }
 
 /// `Min`. That of no integers stays.
-pub fn row_min(names: &Names, items: &Exprs) -> Result<Option<Expr>, Fault>
-    requires names { HasBuiltins names.now }
+pub fn row_min(names: &Vocabulary, items: &Exprs) -> Result<Option<Expr>, Fault>
     ensures { Works (n.extreme (names_in names.now) int_lt items.now) result }
 {
     row_extreme(names, Extreme::Least, items)

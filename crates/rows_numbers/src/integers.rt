@@ -2,13 +2,12 @@
 ghost use Rattle.std.specs.Prelude.{◌≡◌, true, false, [], ◌∷◌};
 ghost use Rattle.expr_tree.specs.Tree.{integer};
 ghost use Rattle.semantics.specs.Numbers as n;
-ghost use Rattle.builtin_names.specs.Named.{HasBuiltins, names_in};
+ghost use Rattle.builtin_names.specs.Named.{names_in};
 ghost use Rattle.builtin_names.specs.Results.{Works};
 
 use crate::answers::judged;
-use builtin_names::{Fault, truth};
+use builtin_names::{Fault, Vocabulary, truth};
 use expr_tree::{Expr, Exprs, Node};
-use name_table::Names;
 
 #[tactic(auto, using(crate::proofs::Judged::zero_steps))]
 fn quotient_of(left: i128, right: i128) -> Result<Option<Expr>, Fault>
@@ -57,8 +56,7 @@ pub fn row_mod(items: &Exprs) -> Result<Option<Expr>, Fault>
 }
 
 /// `EvenQ` and `OddQ`: whether the element is an integer that is even, or is not.
-fn parity(names: &Names, even: bool, items: &Exprs) -> Result<Option<Expr>, Fault>
-    requires names { HasBuiltins names.now }
+fn parity(names: &Vocabulary, even: bool, items: &Exprs) -> Result<Option<Expr>, Fault>
     ensures { Works (n.parity (names_in names.now) even items.now) result }
 {
     let [e] = items.as_slice() else {
@@ -71,16 +69,14 @@ fn parity(names: &Names, even: bool, items: &Exprs) -> Result<Option<Expr>, Faul
 }
 
 /// `EvenQ`.
-pub fn row_even_q(names: &Names, items: &Exprs) -> Result<Option<Expr>, Fault>
-    requires names { HasBuiltins names.now }
+pub fn row_even_q(names: &Vocabulary, items: &Exprs) -> Result<Option<Expr>, Fault>
     ensures { Works (n.parity (names_in names.now) true items.now) result }
 {
     parity(names, true, items)
 }
 
 /// `OddQ`.
-pub fn row_odd_q(names: &Names, items: &Exprs) -> Result<Option<Expr>, Fault>
-    requires names { HasBuiltins names.now }
+pub fn row_odd_q(names: &Vocabulary, items: &Exprs) -> Result<Option<Expr>, Fault>
     ensures { Works (n.parity (names_in names.now) false items.now) result }
 {
     parity(names, false, items)

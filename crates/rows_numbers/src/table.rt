@@ -1,7 +1,7 @@
 //! The rows of numbers by their names.
 ghost use Rattle.std.specs.Prelude.{◌≡◌, IfSome, is_some};
 ghost use Rattle.semantics.specs.Table.{worked};
-ghost use Rattle.builtin_names.specs.Named.{HasBuiltins, names_in};
+ghost use Rattle.builtin_names.specs.Named.{names_in};
 ghost use Rattle.builtin_names.specs.Results.{Works};
 ghost use Rattle.row_kinds.specs.Kinds.{is_of_numbers};
 
@@ -9,9 +9,8 @@ use crate::{
     row_abs, row_even_q, row_factorial, row_gcd, row_max, row_min, row_mod, row_odd_q,
     row_quotient, row_sign,
 };
-use builtin_names::Fault;
+use builtin_names::{Fault, Vocabulary};
 use expr_tree::{Expr, Exprs};
-use name_table::Names;
 use semantics::Builtin;
 use std::alloc::Global;
 use sum_forms::{divide, minus, plus, power, subtract, times};
@@ -21,10 +20,9 @@ use sum_forms::{divide, minus, plus, power, subtract, times};
 pub fn rewrite(
     alloc: Global,
     row: Builtin,
-    names: &Names,
+    names: &Vocabulary,
     items: &Exprs,
 ) -> Option<Result<Option<Expr>, Fault>>
-    requires names { HasBuiltins names.now }
     ensures known { is_some result ≡ is_of_numbers row }
     ensures value { IfSome result (λ r. Works (worked (names_in names.now) row items.now) r) }
 {

@@ -2,15 +2,14 @@
 ghost use Rattle.std.specs.Prelude.{◌≡◌, ◌≤◌, length, drop, is_some};
 ghost use Rattle.expr_tree.specs.Tree.{call, depth};
 ghost use Rattle.semantics.specs.Lists as l;
-ghost use Rattle.builtin_names.specs.Named.{HasBuiltins, names_in};
+ghost use Rattle.builtin_names.specs.Named.{names_in};
 ghost use Rattle.builtin_names.specs.Results.{Works};
 ghost use Rattle.rows_parts.specs.Finds.{Finds, FindsAll, MakesShallow, at_index, picked};
 
 use crate::places::part_at;
-use builtin_names::{Fault, is_name};
+use builtin_names::{Fault, Vocabulary, is_name};
 use expr_tree::{Built, Expr, Exprs, MAX_SIZE, Node};
 use item_list::Items;
-use name_table::Names;
 use semantics::Builtin;
 use std::alloc::Global;
 
@@ -19,12 +18,11 @@ use std::alloc::Global;
 #[tactic(auto, using(crate::proofs::Picked::pick_steps))]
 fn pick(
     alloc: Global,
-    names: &Names,
+    names: &Vocabulary,
     e: &Expr,
     indices: &[Expr],
     from: usize,
 ) -> Result<Option<Expr>, Built>
-    requires names { HasBuiltins names.now }
     requires within { from ≤ length indices.now }
     ensures { Finds (l.part_of (names_in names.now) (drop from indices.now) e.now) result }
 {
@@ -65,13 +63,12 @@ fn headed(alloc: Global, head: &Expr, parts: Exprs) -> Result<Expr, Built>
 #[tactic(auto, using(crate::proofs::Picked::level_steps))]
 fn pick_all(
     alloc: Global,
-    names: &Names,
+    names: &Vocabulary,
     e: &Expr,
     numbers: &[Expr],
     indices: &[Expr],
     from: usize,
 ) -> Result<Option<Expr>, Built>
-    requires names { HasBuiltins names.now }
     requires within { from ≤ length indices.now }
     ensures { Finds (l.with_head e.now (picked (l.part_of (names_in names.now) (drop from indices.now)) e.now numbers.now)) result }
 {
@@ -91,13 +88,12 @@ fn pick_all(
 #[tactic(auto, using(crate::proofs::Picked::each_steps))]
 fn pick_each(
     alloc: Global,
-    names: &Names,
+    names: &Vocabulary,
     e: &Expr,
     numbers: &[Expr],
     indices: &[Expr],
     from: usize,
 ) -> Result<Option<Exprs>, Built>
-    requires names { HasBuiltins names.now }
     requires within { from ≤ length indices.now }
     ensures { FindsAll (picked (l.part_of (names_in names.now) (drop from indices.now)) e.now numbers.now) result }
 {
@@ -123,13 +119,12 @@ fn pick_each(
 #[tactic(auto, using(crate::proofs::Picked::at_steps))]
 fn pick_at(
     alloc: Global,
-    names: &Names,
+    names: &Vocabulary,
     e: &Expr,
     number: &Expr,
     indices: &[Expr],
     from: usize,
 ) -> Result<Option<Expr>, Built>
-    requires names { HasBuiltins names.now }
     requires within { from ≤ length indices.now }
     ensures { Finds (at_index (l.part_of (names_in names.now) (drop from indices.now)) e.now number.now) result }
 {
@@ -145,8 +140,7 @@ fn pick_at(
 /// Whether there is a part at the indices from a place on.
 #[cycle(there)]
 #[tactic(auto, using(crate::proofs::Picked::there_steps))]
-fn is_there(names: &Names, e: &Expr, indices: &[Expr], from: usize) -> bool
-    requires names { HasBuiltins names.now }
+fn is_there(names: &Vocabulary, e: &Expr, indices: &[Expr], from: usize) -> bool
     requires within { from ≤ length indices.now }
     ensures { result ≡ is_some (l.part_of (names_in names.now) (drop from indices.now) e.now) }
 {
@@ -172,8 +166,7 @@ fn is_there(names: &Names, e: &Expr, indices: &[Expr], from: usize) -> bool
 /// Whether there are parts at numbers, and each can be looked at further.
 #[cycle(there)]
 #[tactic(auto, using(crate::proofs::Picked::are_steps))]
-fn are_there(names: &Names, e: &Expr, numbers: &[Expr], indices: &[Expr], from: usize) -> bool
-    requires names { HasBuiltins names.now }
+fn are_there(names: &Vocabulary, e: &Expr, numbers: &[Expr], indices: &[Expr], from: usize) -> bool
     requires within { from ≤ length indices.now }
     ensures { result ≡ is_some (l.with_head e.now (picked (l.part_of (names_in names.now) (drop from indices.now)) e.now numbers.now)) }
 {
@@ -195,8 +188,12 @@ fn are_there(names: &Names, e: &Expr, numbers: &[Expr], indices: &[Expr], from: 
 }
 
 #[tactic(auto, using(crate::proofs::Picked::row_steps))]
-fn found(alloc: Global, names: &Names, e: &Expr, indices: &[Expr]) -> Result<Option<Expr>, Fault>
-    requires names { HasBuiltins names.now }
+fn found(
+    alloc: Global,
+    names: &Vocabulary,
+    e: &Expr,
+    indices: &[Expr],
+) -> Result<Option<Expr>, Fault>
     ensures { Works (l.given (l.part_of (names_in names.now) indices.now e.now)) result }
 {
     match pick(alloc, names, e, indices, 0) {
@@ -214,8 +211,7 @@ fn found(alloc: Global, names: &Names, e: &Expr, indices: &[Expr]) -> Result<Opt
 }
 
 /// `Part`.
-pub fn row_part(alloc: Global, names: &Names, items: &Exprs) -> Result<Option<Expr>, Fault>
-    requires names { HasBuiltins names.now }
+pub fn row_part(alloc: Global, names: &Vocabulary, items: &Exprs) -> Result<Option<Expr>, Fault>
     ensures { Works (l.part (names_in names.now) items.now) result }
 {
     let [e, _, ..] = items.as_slice() else {

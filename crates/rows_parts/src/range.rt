@@ -4,15 +4,14 @@ ghost use Rattle.semantics.specs.Control.{steps_to};
 ghost use Rattle.semantics.specs.Lists as l;
 ghost use Rattle.semantics.specs.Names.{make};
 ghost use Rattle.semantics.specs.Worked.{Gives};
-ghost use Rattle.builtin_names.specs.Named.{HasBuiltins, names_in};
+ghost use Rattle.builtin_names.specs.Named.{names_in};
 ghost use Rattle.builtin_names.specs.Results.{Works};
 ghost use Rattle.semantics.specs.declared.builtin.Builtin.{Builtin};
 
-use builtin_names::{Fault, make};
+use builtin_names::{Fault, Vocabulary, make};
 use expr_tree::{Expr, Exprs, MAX_SIZE, Node};
 use int_ops::Progression;
 use item_list::Items;
-use name_table::Names;
 use semantics::Builtin;
 use std::alloc::{AllocError, Global};
 
@@ -48,12 +47,11 @@ fn numbered(alloc: Global, from: i128, to: i128, by: i128) -> Result<Exprs, Allo
 #[tactic(auto, using(expr_tree::proofs::Callers::tree_steps))]
 fn ranged(
     alloc: Global,
-    names: &Names,
+    names: &Vocabulary,
     from: i128,
     to: i128,
     by: i128,
 ) -> Result<Option<Expr>, Fault>
-    requires names { HasBuiltins names.now }
     ensures { Works (Gives (make (names_in names.now) Builtin.List (l.count_up from by (steps_to from to by)))) result }
 {
     if are_few(from, to, by) {
@@ -64,8 +62,7 @@ fn ranged(
     }
 }
 
-fn to_end(alloc: Global, names: &Names, to: &Expr) -> Result<Option<Expr>, Fault>
-    requires names { HasBuiltins names.now }
+fn to_end(alloc: Global, names: &Vocabulary, to: &Expr) -> Result<Option<Expr>, Fault>
     ensures { Works (l.range (names_in names.now) (to.now ∷ [])) result }
 {
     let Node::Int(to) = to.node() else {
@@ -74,8 +71,12 @@ fn to_end(alloc: Global, names: &Names, to: &Expr) -> Result<Option<Expr>, Fault
     ranged(alloc, names, 1, *to, 1)
 }
 
-fn from_start(alloc: Global, names: &Names, from: &Expr, to: &Expr) -> Result<Option<Expr>, Fault>
-    requires names { HasBuiltins names.now }
+fn from_start(
+    alloc: Global,
+    names: &Vocabulary,
+    from: &Expr,
+    to: &Expr,
+) -> Result<Option<Expr>, Fault>
     ensures { Works (l.range (names_in names.now) (from.now ∷ to.now ∷ [])) result }
 {
     let Node::Int(from) = from.node() else {
@@ -90,12 +91,11 @@ fn from_start(alloc: Global, names: &Names, from: &Expr, to: &Expr) -> Result<Op
 #[tactic(auto, using(crate::proofs::Ranges::step_steps))]
 fn by_step(
     alloc: Global,
-    names: &Names,
+    names: &Vocabulary,
     from: &Expr,
     to: &Expr,
     by: &Expr,
 ) -> Result<Option<Expr>, Fault>
-    requires names { HasBuiltins names.now }
     ensures { Works (l.range (names_in names.now) (from.now ∷ to.now ∷ by.now ∷ [])) result }
 {
     let Node::Int(from) = from.node() else {
@@ -115,8 +115,7 @@ fn by_step(
 
 /// `Range`.
 #[tactic(auto, using(crate::proofs::Ranges::row_steps))]
-pub fn row_range(alloc: Global, names: &Names, items: &Exprs) -> Result<Option<Expr>, Fault>
-    requires names { HasBuiltins names.now }
+pub fn row_range(alloc: Global, names: &Vocabulary, items: &Exprs) -> Result<Option<Expr>, Fault>
     ensures { Works (l.range (names_in names.now) items.now) result }
 {
     match items.as_slice() {

@@ -6,21 +6,19 @@ ghost use Rattle.semantics.specs.Lists as l;
 ghost use Rattle.semantics.specs.Names as n;
 ghost use Rattle.semantics.specs.Worked.{Gives};
 ghost use Rattle.semantics.specs.declared.builtin.Builtin.{Builtin};
-ghost use Rattle.builtin_names.specs.Named.{HasBuiltins, names_in};
+ghost use Rattle.builtin_names.specs.Named.{names_in};
 ghost use Rattle.builtin_names.specs.Results.{Works};
 ghost use Rattle.rows_parts.specs.Widths.{are_long, width};
 
-use builtin_names::{Fault, items_of, items_under, make};
+use builtin_names::{Fault, Vocabulary, items_of, items_under, make};
 use expr_tree::{Built, Expr, Exprs};
 use item_list::Items;
-use name_table::Names;
 use semantics::Builtin;
 use std::alloc::{AllocError, Global};
 
 /// Whether each of these is a List of so many elements.
 #[tactic(auto, using(crate::proofs::Columns::long_steps))]
-fn are_long(names: &Names, length: usize, rows: &[Expr]) -> bool
-    requires names { HasBuiltins names.now }
+fn are_long(names: &Vocabulary, length: usize, rows: &[Expr]) -> bool
     ensures { result ≡ are_long (names_in names.now) length rows.now }
 {
     for row in rows {
@@ -36,8 +34,7 @@ fn are_long(names: &Names, length: usize, rows: &[Expr]) -> bool
 
 /// The length that all rows have, where each is a List and there are any.
 #[tactic(auto, using(crate::proofs::Columns::width_steps))]
-fn width(names: &Names, rows: &[Expr]) -> Option<usize>
-    requires names { HasBuiltins names.now }
+fn width(names: &Vocabulary, rows: &[Expr]) -> Option<usize>
     ensures { result ≡ width (names_in names.now) rows.now }
 {
     let [first, ..] = rows else {
@@ -68,8 +65,7 @@ fn column(alloc: Global, rows: &[Expr], place: usize) -> Result<Exprs, AllocErro
 
 /// The columns, each of them a List.
 #[tactic(auto, using(crate::proofs::Columns::columns_steps))]
-fn columns(alloc: Global, names: &Names, rows: &[Expr], width: usize) -> Result<Exprs, Built>
-    requires names { HasBuiltins names.now }
+fn columns(alloc: Global, names: &Vocabulary, rows: &[Expr], width: usize) -> Result<Exprs, Built>
     ensures { MakesAll (trees (l.columns (names_in names.now) 0 width (map n.items_of rows.now))) result }
 {
     let mut made = Items::new(alloc);
@@ -82,8 +78,12 @@ fn columns(alloc: Global, names: &Names, rows: &[Expr], width: usize) -> Result<
 
 /// The columns of rows that are not too deep, as a List.
 #[tactic(auto, using(expr_tree::proofs::Callers::tree_steps))]
-fn turned(alloc: Global, names: &Names, rows: &[Expr], width: usize) -> Result<Option<Expr>, Fault>
-    requires names { HasBuiltins names.now }
+fn turned(
+    alloc: Global,
+    names: &Vocabulary,
+    rows: &[Expr],
+    width: usize,
+) -> Result<Option<Expr>, Fault>
     requires shallow { depths (trees rows.now) < 512 }
     ensures { Works (Gives (n.make (names_in names.now) Builtin.List (l.columns (names_in names.now) 0 width (map n.items_of rows.now)))) result }
 {
@@ -96,8 +96,7 @@ fn turned(alloc: Global, names: &Names, rows: &[Expr], width: usize) -> Result<O
 }
 
 #[tactic(auto, using(crate::proofs::Columns::row_steps))]
-fn transposed(alloc: Global, names: &Names, e: &Expr) -> Result<Option<Expr>, Fault>
-    requires names { HasBuiltins names.now }
+fn transposed(alloc: Global, names: &Vocabulary, e: &Expr) -> Result<Option<Expr>, Fault>
     ensures { Works (l.transpose (names_in names.now) (e.now ∷ [])) result }
 {
     let _shallow = e.depth();
@@ -111,8 +110,11 @@ fn transposed(alloc: Global, names: &Names, e: &Expr) -> Result<Option<Expr>, Fa
 }
 
 /// `Transpose`.
-pub fn row_transpose(alloc: Global, names: &Names, items: &Exprs) -> Result<Option<Expr>, Fault>
-    requires names { HasBuiltins names.now }
+pub fn row_transpose(
+    alloc: Global,
+    names: &Vocabulary,
+    items: &Exprs,
+) -> Result<Option<Expr>, Fault>
     ensures { Works (l.transpose (names_in names.now) items.now) result }
 {
     match items.as_slice() {

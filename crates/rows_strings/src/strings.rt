@@ -3,14 +3,13 @@ ghost use Rattle.std.specs.Prelude.{◌≡◌, ◌++◌, IfOk, length, map, char
 ghost use Rattle.std.specs.Option.{option_map};
 ghost use Rattle.expr_tree.specs.Tree.{string};
 ghost use Rattle.semantics.specs.Strings as s;
-ghost use Rattle.builtin_names.specs.Named.{HasBuiltins, names_in};
+ghost use Rattle.builtin_names.specs.Named.{names_in};
 ghost use Rattle.builtin_names.specs.Results.{Works};
 ghost use Rattle.rows_strings.specs.TextOf.{text_of};
 
-use builtin_names::{Fault, make};
+use builtin_names::{Fault, Vocabulary, make};
 use expr_tree::{Expr, Exprs, Node, Text};
 use item_list::Items;
-use name_table::Names;
 use semantics::Builtin;
 use std::alloc::{AllocError, Global};
 
@@ -90,8 +89,11 @@ fn strings_of(alloc: Global, characters: &[char]) -> Result<Exprs, AllocError>
 }
 
 /// `Characters`.
-pub fn row_characters(alloc: Global, names: &Names, items: &Exprs) -> Result<Option<Expr>, Fault>
-    requires names { HasBuiltins names.now }
+pub fn row_characters(
+    alloc: Global,
+    names: &Vocabulary,
+    items: &Exprs,
+) -> Result<Option<Expr>, Fault>
     ensures { Works (s.characters (names_in names.now) items.now) result }
 {
     let [e] = items.as_slice() else {

@@ -1,13 +1,12 @@
 //! Comparisons of integers, each with the next.
 ghost use Rattle.std.specs.Prelude.{◌≡◌, ◌&&◌, int_lt, int_le};
 ghost use Rattle.semantics.specs.Tests as t;
-ghost use Rattle.builtin_names.specs.Named.{HasBuiltins, names_in};
+ghost use Rattle.builtin_names.specs.Named.{names_in};
 ghost use Rattle.builtin_names.specs.Results.{Works};
 ghost use Rattle.rows_tests.specs.Chains.{int_of, holds, is_chain, linked};
 
-use builtin_names::{Fault, truth};
+use builtin_names::{Fault, Vocabulary, truth};
 use expr_tree::{Expr, Exprs, Node};
-use name_table::Names;
 
 /// What has to hold between an integer and the next.
 #[derive(Clone, Copy, Debug, PartialEq, Eq)]
@@ -65,8 +64,7 @@ fn is_chain(relation: Relation, items: &[Expr]) -> Option<bool>
     Some(good)
 }
 
-fn compared(names: &Names, relation: Relation, items: &Exprs) -> Result<Option<Expr>, Fault>
-    requires names { HasBuiltins names.now }
+fn compared(names: &Vocabulary, relation: Relation, items: &Exprs) -> Result<Option<Expr>, Fault>
     ensures { Works (t.compared (names_in names.now) (holds relation) items.now) result }
 {
     match is_chain(relation, items.as_slice()) {
@@ -76,32 +74,28 @@ fn compared(names: &Names, relation: Relation, items: &Exprs) -> Result<Option<E
 }
 
 /// `Less`.
-pub fn row_less(names: &Names, items: &Exprs) -> Result<Option<Expr>, Fault>
-    requires names { HasBuiltins names.now }
+pub fn row_less(names: &Vocabulary, items: &Exprs) -> Result<Option<Expr>, Fault>
     ensures { Works (t.compared (names_in names.now) int_lt items.now) result }
 {
     compared(names, Relation::Less, items)
 }
 
 /// `LessEqual`.
-pub fn row_less_equal(names: &Names, items: &Exprs) -> Result<Option<Expr>, Fault>
-    requires names { HasBuiltins names.now }
+pub fn row_less_equal(names: &Vocabulary, items: &Exprs) -> Result<Option<Expr>, Fault>
     ensures { Works (t.compared (names_in names.now) int_le items.now) result }
 {
     compared(names, Relation::LessEqual, items)
 }
 
 /// `Greater`.
-pub fn row_greater(names: &Names, items: &Exprs) -> Result<Option<Expr>, Fault>
-    requires names { HasBuiltins names.now }
+pub fn row_greater(names: &Vocabulary, items: &Exprs) -> Result<Option<Expr>, Fault>
     ensures { Works (t.compared (names_in names.now) (λ m n. int_lt n m) items.now) result }
 {
     compared(names, Relation::Greater, items)
 }
 
 /// `GreaterEqual`.
-pub fn row_greater_equal(names: &Names, items: &Exprs) -> Result<Option<Expr>, Fault>
-    requires names { HasBuiltins names.now }
+pub fn row_greater_equal(names: &Vocabulary, items: &Exprs) -> Result<Option<Expr>, Fault>
     ensures { Works (t.compared (names_in names.now) (λ m n. int_le n m) items.now) result }
 {
     compared(names, Relation::GreaterEqual, items)

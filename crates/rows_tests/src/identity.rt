@@ -2,14 +2,13 @@
 ghost use Rattle.std.specs.Prelude.{◌≡◌, true, false};
 ghost use Rattle.semantics.specs.Tests as t;
 ghost use Rattle.semantics.specs.Worked.{Gives};
-ghost use Rattle.builtin_names.specs.Named.{HasBuiltins, names_in};
+ghost use Rattle.builtin_names.specs.Named.{names_in};
 ghost use Rattle.builtin_names.specs.Results.{Works};
 ghost use Rattle.semantics.specs.Names.{truth};
 ghost use Rattle.rows_tests.specs.Differ.{differ};
 
-use builtin_names::{Fault, truth};
+use builtin_names::{Fault, Vocabulary, truth};
 use expr_tree::{Expr, Exprs, Node};
-use name_table::Names;
 
 /// Whether each element is the one before it.
 #[tactic(auto, using(crate::proofs::Neighbours::same_steps))]
@@ -90,8 +89,7 @@ fn neighbours_differ(items: &[Expr]) -> bool
 }
 
 /// `Equal`.
-pub fn row_equal(names: &Names, items: &Exprs) -> Result<Option<Expr>, Fault>
-    requires names { HasBuiltins names.now }
+pub fn row_equal(names: &Vocabulary, items: &Exprs) -> Result<Option<Expr>, Fault>
     ensures { Works (t.equal (names_in names.now) items.now) result }
 {
     if all_same(items.as_slice()) {
@@ -104,8 +102,7 @@ pub fn row_equal(names: &Names, items: &Exprs) -> Result<Option<Expr>, Fault>
 }
 
 /// `Unequal`.
-pub fn row_unequal(names: &Names, items: &Exprs) -> Result<Option<Expr>, Fault>
-    requires names { HasBuiltins names.now }
+pub fn row_unequal(names: &Vocabulary, items: &Exprs) -> Result<Option<Expr>, Fault>
     ensures { Works (t.unequal (names_in names.now) items.now) result }
 {
     if some_same(items.as_slice()) {
@@ -118,16 +115,14 @@ pub fn row_unequal(names: &Names, items: &Exprs) -> Result<Option<Expr>, Fault>
 }
 
 /// `SameQ`.
-pub fn row_same_q(names: &Names, items: &Exprs) -> Result<Option<Expr>, Fault>
-    requires names { HasBuiltins names.now }
+pub fn row_same_q(names: &Vocabulary, items: &Exprs) -> Result<Option<Expr>, Fault>
     ensures { Works (Gives (truth (names_in names.now) (t.all_same items.now))) result }
 {
     Ok(Some(truth(names, all_same(items.as_slice()))))
 }
 
 /// `UnsameQ`.
-pub fn row_unsame_q(names: &Names, items: &Exprs) -> Result<Option<Expr>, Fault>
-    requires names { HasBuiltins names.now }
+pub fn row_unsame_q(names: &Vocabulary, items: &Exprs) -> Result<Option<Expr>, Fault>
     ensures { Works (Gives (truth (names_in names.now) (elim (t.some_same items.now) [ true ↦ false | false ↦ true ]))) result }
 {
     Ok(Some(truth(names, !some_same(items.as_slice()))))

@@ -5,18 +5,16 @@ ghost use Rattle.semantics.specs.Names.{is_name, is_call};
 ghost use Rattle.semantics.specs.Table.{ordered_q};
 ghost use Rattle.semantics.specs.Tests as t;
 ghost use Rattle.semantics.specs.declared.builtin.Builtin.{Builtin};
-ghost use Rattle.builtin_names.specs.Named.{HasBuiltins, names_in};
+ghost use Rattle.builtin_names.specs.Named.{names_in};
 ghost use Rattle.builtin_names.specs.Results.{Works};
 
-use builtin_names::{Fault, is_call, is_name, truth};
+use builtin_names::{Fault, Vocabulary, is_call, is_name, truth};
 use canon_order::compare;
 use expr_tree::{Expr, Exprs, Node};
-use name_table::Names;
 use semantics::Builtin;
 
 /// `AtomQ`.
-pub fn row_atom_q(names: &Names, items: &Exprs) -> Result<Option<Expr>, Fault>
-    requires names { HasBuiltins names.now }
+pub fn row_atom_q(names: &Vocabulary, items: &Exprs) -> Result<Option<Expr>, Fault>
     ensures { Works (t.asked_of_one (names_in names.now) t.is_atom items.now) result }
 {
     let [e] = items.as_slice() else {
@@ -29,8 +27,7 @@ pub fn row_atom_q(names: &Names, items: &Exprs) -> Result<Option<Expr>, Fault>
 }
 
 /// `IntegerQ`.
-pub fn row_integer_q(names: &Names, items: &Exprs) -> Result<Option<Expr>, Fault>
-    requires names { HasBuiltins names.now }
+pub fn row_integer_q(names: &Vocabulary, items: &Exprs) -> Result<Option<Expr>, Fault>
     ensures { Works (t.asked_of_one (names_in names.now) t.is_int items.now) result }
 {
     let [e] = items.as_slice() else {
@@ -43,8 +40,7 @@ pub fn row_integer_q(names: &Names, items: &Exprs) -> Result<Option<Expr>, Fault
 }
 
 /// `StringQ`.
-pub fn row_string_q(names: &Names, items: &Exprs) -> Result<Option<Expr>, Fault>
-    requires names { HasBuiltins names.now }
+pub fn row_string_q(names: &Vocabulary, items: &Exprs) -> Result<Option<Expr>, Fault>
     ensures { Works (t.asked_of_one (names_in names.now) t.is_str items.now) result }
 {
     let [e] = items.as_slice() else {
@@ -57,8 +53,7 @@ pub fn row_string_q(names: &Names, items: &Exprs) -> Result<Option<Expr>, Fault>
 }
 
 /// `ListQ`.
-pub fn row_list_q(names: &Names, items: &Exprs) -> Result<Option<Expr>, Fault>
-    requires names { HasBuiltins names.now }
+pub fn row_list_q(names: &Vocabulary, items: &Exprs) -> Result<Option<Expr>, Fault>
     ensures { Works (t.asked_of_one (names_in names.now) (is_call (names_in names.now) Builtin.List) items.now) result }
 {
     match items.as_slice() {
@@ -68,8 +63,7 @@ pub fn row_list_q(names: &Names, items: &Exprs) -> Result<Option<Expr>, Fault>
 }
 
 /// `TrueQ`.
-pub fn row_true_q(names: &Names, items: &Exprs) -> Result<Option<Expr>, Fault>
-    requires names { HasBuiltins names.now }
+pub fn row_true_q(names: &Vocabulary, items: &Exprs) -> Result<Option<Expr>, Fault>
     ensures { Works (t.asked_of_one (names_in names.now) (is_name (names_in names.now) Builtin.True) items.now) result }
 {
     match items.as_slice() {
@@ -79,8 +73,7 @@ pub fn row_true_q(names: &Names, items: &Exprs) -> Result<Option<Expr>, Fault>
 }
 
 /// `Not`.
-pub fn row_not(names: &Names, items: &Exprs) -> Result<Option<Expr>, Fault>
-    requires names { HasBuiltins names.now }
+pub fn row_not(names: &Vocabulary, items: &Exprs) -> Result<Option<Expr>, Fault>
     ensures { Works (t.negated (names_in names.now) items.now) result }
 {
     let [e] = items.as_slice() else {
@@ -111,8 +104,7 @@ fn in_order(items: &[Expr]) -> bool
 
 /// `OrderedQ`.
 #[tactic(auto, using(expr_tree::proofs::Callers::tree_steps))]
-pub fn row_ordered_q(names: &Names, items: &Exprs) -> Result<Option<Expr>, Fault>
-    requires names { HasBuiltins names.now }
+pub fn row_ordered_q(names: &Vocabulary, items: &Exprs) -> Result<Option<Expr>, Fault>
     ensures { Works (ordered_q (names_in names.now) items.now) result }
 {
     let [e] = items.as_slice() else {

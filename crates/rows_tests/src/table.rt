@@ -1,7 +1,7 @@
 //! The rows of this crate by their names.
 ghost use Rattle.std.specs.Prelude.{◌≡◌, IfSome, is_some};
 ghost use Rattle.semantics.specs.Table.{worked};
-ghost use Rattle.builtin_names.specs.Named.{HasBuiltins, names_in};
+ghost use Rattle.builtin_names.specs.Named.{names_in};
 ghost use Rattle.builtin_names.specs.Results.{Works};
 ghost use Rattle.row_kinds.specs.Kinds.{is_test};
 
@@ -10,15 +10,17 @@ use crate::identity::{row_equal, row_same_q, row_unequal, row_unsame_q};
 use crate::questions::{
     row_atom_q, row_integer_q, row_list_q, row_not, row_ordered_q, row_string_q, row_true_q,
 };
-use builtin_names::Fault;
+use builtin_names::{Fault, Vocabulary};
 use expr_tree::{Expr, Exprs};
-use name_table::Names;
 use semantics::Builtin;
 
 /// What a row makes of its elements. `None` for a row that is none of this crate.
 #[tactic(auto, unfolding(semantics::specs::Table::worked))]
-pub fn rewrite(row: Builtin, names: &Names, items: &Exprs) -> Option<Result<Option<Expr>, Fault>>
-    requires names { HasBuiltins names.now }
+pub fn rewrite(
+    row: Builtin,
+    names: &Vocabulary,
+    items: &Exprs,
+) -> Option<Result<Option<Expr>, Fault>>
     ensures known { is_some result ≡ is_test row }
     ensures value { IfSome result (λ r. Works (worked (names_in names.now) row items.now) r) }
 {

@@ -4,5 +4,4 @@ mod Agreeing
 mod Asked
 mod Trying
 pub mod Falling
-pub mod Laws
 pub mod Questions

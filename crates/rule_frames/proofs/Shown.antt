@@ -51,16 +51,12 @@ module _ {names : Names} {d : Definitions} {limits : Limits} where
   goes_trial {r = Ok (Yields v)} rs e t = record { by = λ k. t.by (or_rules names rs e k) }
   goes_trial {r = Ok Fails} rs e t = record { by = λ k. t.by (or_rules names rs e k) }
   goes_trial {r = Err (Halt.Stopped c)} rs e t = record { by = λ k. t.by (or_rules names rs e k) }
-  goes_trial {r = Err Halt.Quit} rs e t = absurd t.by
-  goes_trial {r = Err Halt.Closed} rs e t = absurd t.by
   goes_trial {r = Err Halt.NoMemory} rs e t = record { by = tt }
 
   -- after what was shown
   pub goes_after : {p q : Part} {r : Result Try Halt} {rest : Option Tree → Part} {next : Part} → ((k : Option Tree → Prog) → Shows names d limits (p k) (q k)) → Goes names d limits q r rest next → Goes names d limits p r rest next
   goes_after {r = Ok t} s g = record { by = λ k. shows_on (s k) (g.by k) }
   goes_after {r = Err (Halt.Stopped c)} s g = record { by = λ k. shows_stop (s k) (g.by k) }
-  goes_after {r = Err Halt.Quit} s g = absurd g.by
-  goes_after {r = Err Halt.Closed} s g = absurd g.by
   goes_after {r = Err Halt.NoMemory} s g = record { by = tt }
 
   -- a part that does not fail
@@ -72,8 +68,6 @@ module _ {names : Names} {d : Definitions} {limits : Limits} where
 
   pub tried_err : {p q : Part} {h : Halt} {rest rest' : Option Tree → Part} {next : Part} → ((k : Option Tree → Prog) → Shows names d limits (p k) (q k)) → Goes names d limits q (Err h) rest next → Tried names d limits p (Err h) rest'
   tried_err {h = Halt.Stopped c} s g = record { by = λ k. shows_stop (s k) (g.by k) }
-  tried_err {h = Halt.Quit} s g = absurd g.by
-  tried_err {h = Halt.Closed} s g = absurd g.by
   tried_err {h = Halt.NoMemory} s g = record { by = tt }
 
   pub tried_fails : {p : Part} {rest : Option Tree → Part} → ((k : Option Tree → Prog) → Shows names d limits (p k) (k None)) → Tried names d limits p (Ok Fails) rest
@@ -82,15 +76,11 @@ module _ {names : Names} {d : Definitions} {limits : Limits} where
   -- an expression that is too large halts, and so does want of memory
   pub tried_halts : (e : Tree) {h : Halt} {p : Part} {rest : Option Tree → Part} (q : Part) → ((k : Option Tree → Prog) → p k ≡ Check e (q k)) → HaltsFor limits e h → Tried names d limits p (Err h) rest
   tried_halts e {h = Halt.Stopped c} q is f = record { by = λ k. shows_stop (shows_is (is k)) (large f.by) }
-  tried_halts e {h = Halt.Quit} q is f = absurd f.by
-  tried_halts e {h = Halt.Closed} q is f = absurd f.by
   tried_halts e {h = Halt.NoMemory} q is f = record { by = tt }
 
   pub tried_from : {p q : Part} {r : Result Try Halt} {rest : Option Tree → Part} → ((k : Option Tree → Prog) → p k ≡ q k) → Tried names d limits q r rest → Tried names d limits p r rest
   tried_from {r = Ok t} e g = record { by = λ k. shows_on (shows_is (e k)) (g.by k) }
   tried_from {r = Err (Halt.Stopped c)} e g = record { by = λ k. shows_stop (shows_is (e k)) (g.by k) }
-  tried_from {r = Err Halt.Quit} e g = absurd g.by
-  tried_from {r = Err Halt.Closed} e g = absurd g.by
   tried_from {r = Err Halt.NoMemory} e g = record { by = tt }
 
   -- a question within the limits

@@ -27,8 +27,6 @@ tried_unless (Ok (Try.Guard e turn)) s g f = record { by = λ k. shows_on (s k) 
 tried_unless (Ok (Try.Found b e)) s g f = record { by = λ k. shows_on (s k) (g.by k) }
 tried_unless (Ok Try.Fails) s g f = absurd (cc)
 tried_unless (Err (Halt.Stopped c)) s g f = record { by = λ k. shows_stop (s k) (g.by k) }
-tried_unless (Err Halt.Quit) s g f = absurd g.by
-tried_unless (Err Halt.Closed) s g f = absurd g.by
 tried_unless (Err Halt.NoMemory) s g f = record { by = tt }
 
 -- what is next after a part that failed
@@ -44,6 +42,4 @@ pub tried_next : {names : Names} {d : Definitions} {limits : Limits} {q : Part} 
     → Goes names d limits q (trying names r) rest next → is_settled r ≡ false → Tried names d limits next s last → Tried names d limits q s last
 tried_next r {s = Ok t} g f tried = record { by = λ k. shows_on (shows_next r g f k) (tried.by k) }
 tried_next r {s = Err (Halt.Stopped c)} g f tried = record { by = λ k. shows_stop (shows_next r g f k) (tried.by k) }
-tried_next r {s = Err Halt.Quit} g f tried = absurd tried.by
-tried_next r {s = Err Halt.Closed} g f tried = absurd tried.by
 tried_next r {s = Err Halt.NoMemory} g f tried = record { by = tt }

@@ -44,8 +44,6 @@ followed Fails rest next k = next k
 abbrev pub GoesBy : Names → Definitions → Limits → ((Option Tree → Prog) → Prog) → Result Try Halt → (Option Tree → (Option Tree → Prog) → Prog) → ((Option Tree → Prog) → Prog) → Type 0
 GoesBy names d limits p (Ok t) rest next = (k : Option Tree → Prog) → Shows names d limits (p k) (followed t rest next k)
 GoesBy names d limits p (Err (Halt.Stopped c)) rest next = (k : Option Tree → Prog) → HasStopped names d limits (p k) c
-GoesBy names d limits p (Err Halt.Quit) rest next = ⊥
-GoesBy names d limits p (Err Halt.Closed) rest next = ⊥
 GoesBy names d limits p (Err Halt.NoMemory) rest next = Unit {0}
 
 -- the answer is the head of the trial, and rest what is left; where this part fails, next is left
@@ -55,8 +53,6 @@ pub record Goes (names : Names) (d : Definitions) (limits : Limits) (p : (Option
 abbrev pub TriedBy : Names → Definitions → Limits → ((Option Tree → Prog) → Prog) → Result Try Halt → (Option Tree → (Option Tree → Prog) → Prog) → Type 0
 TriedBy names d limits p (Ok t) rest = (k : Option Tree → Prog) → Shows names d limits (p k) (tried t rest k)
 TriedBy names d limits p (Err (Halt.Stopped c)) rest = (k : Option Tree → Prog) → HasStopped names d limits (p k) c
-TriedBy names d limits p (Err Halt.Quit) rest = ⊥
-TriedBy names d limits p (Err Halt.Closed) rest = ⊥
 TriedBy names d limits p (Err Halt.NoMemory) rest = Unit {0}
 
 -- the answer is the head of the trial, and rest what is left

@@ -6,26 +6,25 @@ ghost use Rattle.semantics.specs.Definitions.{Definitions};
 ghost use Rattle.semantics.specs.Names as n;
 ghost use Rattle.semantics.specs.Program.{Prog};
 ghost use Rattle.evaluation_steps.specs.Stopping.{AreBounded};
-ghost use Rattle.builtin_names.specs.Named.{HasBuiltins, names_in};
+ghost use Rattle.builtin_names.specs.Named.{names_in};
 ghost use Rattle.rule_frames.specs.Reading.{Tells, Goes, Tried};
 ghost use Rattle.rule_frames.specs.Trials.{is_settled, left, left_rules, trying};
 
 use crate::heads::Told;
 use crate::trial::Trial;
 use crate::tries::Try;
+use builtin_names::Vocabulary;
 use evaluation_steps::Halt;
 use expr_tree::{Expr, Limits};
-use item_list::Items;
 use match_seq::{AttrSource, Matcher};
-use name_table::Names;
-use rule_store::Rule;
+use rule_store::Rules;
 use std::alloc::{AllocError, Global};
 
 /// An expression, rules with the place of the next one, and the trial of the one before it.
 #[derive(Drop)]
 pub struct Attempt {
     subject: Expr,
-    rules: Items<Rule>,
+    rules: Rules,
     next: usize,
     trial: Option<Trial>,
 }
@@ -43,17 +42,13 @@ fn is_settled(tried: &Result<Try, Halt>) -> bool
 }
 
 impl Attempt {
-    /// The trial of some rules on an expression. Rules that are added later are not seen.
-    pub fn start(alloc: Global, rules: &[Rule], subject: &Expr) -> Result<Attempt, AllocError>
+    /// The trial of some rules on an expression. The rules are shared; those that are added later are not seen.
+    pub fn start(alloc: Global, rules: &Rules, subject: &Expr) -> Result<Attempt, AllocError>
         ensures { (names : n.Names) (k : Option Tree → Prog) → IfOk result (λ a. left names a None k ≡ try_rules names rules.now subject.now (λ v. k (Some v)) (k None)) }
     {
-        let mut copies = Items::new(alloc);
-        for rule in rules {
-            copies.push(rule.copy(alloc)?)?;
-        }
         Ok(Attempt {
             subject: subject.copy(alloc)?,
-            rules: copies,
+            rules: rules.copy(alloc)?,
             next: 0,
             trial: None,
         })
@@ -63,11 +58,10 @@ impl Attempt {
     fn go_on(
         &mut self,
         alloc: Global,
-        names: &Names,
+        names: &Vocabulary,
         limits: &Limits,
         answer: &Option<Expr>,
     ) -> Result<Try, Halt>
-        requires names { HasBuiltins names.now }
         requires bounded { AreBounded limits.now }
         ensures goes { (d : Definitions) → Goes (names_in names.now) d limits.now (left (names_in names.now) self.old answer.now) (trying (names_in names.now) result) (left (names_in names.now) self.new) (left_rules (names_in names.now) self.new) }
     {
@@ -81,11 +75,10 @@ impl Attempt {
     fn next_rule<A: AttrSource>(
         &mut self,
         alloc: Global,
-        names: &Names,
+        names: &Vocabulary,
         limits: &Limits,
         attrs: &A,
     ) -> Result<Try, Halt>
-        requires names { HasBuiltins names.now }
         requires bounded { AreBounded limits.now }
         requires more { self.old.next < length self.old.rules }
         ensures goes { (d : Definitions) → Tells (names_in names.now) d (A.told attrs.now) → Goes (names_in names.now) d limits.now (left_rules (names_in names.now) self.old) (trying (names_in names.now) result) (left (names_in names.now) self.new) (left_rules (names_in names.now) self.new) }
@@ -104,11 +97,10 @@ impl Attempt {
     fn try_rest<A: AttrSource>(
         &mut self,
         alloc: Global,
-        names: &Names,
+        names: &Vocabulary,
         limits: &Limits,
         attrs: &A,
     ) -> Result<Try, Halt>
-        requires names { HasBuiltins names.now }
         requires bounded { AreBounded limits.now }
         ensures tried { (d : Definitions) → Tells (names_in names.now) d (A.told attrs.now) → Tried (names_in names.now) d limits.now (left_rules (names_in names.now) self.old) (trying (names_in names.now) result) (left (names_in names.now) self.new) }
     {
@@ -125,12 +117,11 @@ impl Attempt {
     pub fn step<A: AttrSource>(
         &mut self,
         alloc: Global,
-        names: &Names,
+        names: &Vocabulary,
         limits: &Limits,
         attrs: &A,
         answer: Option<Expr>,
     ) -> Result<Try, Halt>
-        requires names { HasBuiltins names.now }
         requires bounded { AreBounded limits.now }
         ensures moved { (d : Definitions) → Tells (names_in names.now) d (A.told attrs.now) → Tried (names_in names.now) d limits.now (left (names_in names.now) self.old answer) (trying (names_in names.now) result) (left (names_in names.now) self.new) }
     {

@@ -1,34 +1,18 @@
 //! The questions of guards.
 ghost use Rattle.std.specs.Prelude.{◌≡◌, ◌∷◌, [], IfOk};
-ghost use Rattle.expr_tree.specs.Tree.{Tree};
-ghost use Rattle.expr_tree.specs.Limits.{Assembles};
 ghost use Rattle.semantics.specs.Match.{guard_expression};
 ghost use Rattle.evaluation_steps.specs.Stopping.{AreBounded, Checked};
-ghost use Rattle.builtin_names.specs.Named.{HasBuiltins, names_in};
+ghost use Rattle.builtin_names.specs.Named.{names_in};
 ghost use Rattle.match_seq.specs.Goals.{guard_of};
 
-use evaluation_steps::{Halt, checked, fits, stop_for};
-use expr_tree::{Built, Expr, Exprs, Limits};
-use frames_scope::place;
+use builtin_names::Vocabulary;
+use evaluation_steps::{Halt, checked};
+use expr_tree::{Expr, Exprs, Limits};
 use item_list::Items;
+use made_exprs::placed;
 use match_seq::Guard;
-use name_table::Names;
 use std::alloc::{AllocError, Global};
 use substitution::Bindings;
-
-/// An expression that was made, where it is within the limits.
-pub(crate) fn judged(limits: &Limits, made: Result<Expr, Built>) -> Result<Expr, Halt>
-    requires bounded { AreBounded limits.now }
-    ensures { (t : Tree) → Assembles t made → Checked limits.now t result }
-{
-    match made {
-        Ok(e) => match fits(limits, &e) {
-            None => Ok(e),
-            Some(stop) => Err(Halt::Stopped(stop)),
-        },
-        Err(built) => Err(stop_for(limits, built)),
-    }
-}
 
 fn one(alloc: Global, e: Expr) -> Result<Exprs, AllocError>
     ensures { IfOk result (λ items. items ≡ e ∷ []) }
@@ -41,12 +25,11 @@ fn one(alloc: Global, e: Expr) -> Result<Exprs, AllocError>
 /// The expression of a guard, where it is within the limits.
 pub(crate) fn question(
     alloc: Global,
-    names: &Names,
+    names: &Vocabulary,
     limits: &Limits,
     bindings: &Bindings,
     guard: &Guard,
 ) -> Result<Expr, Halt>
-    requires names { HasBuiltins names.now }
     requires bounded { AreBounded limits.now }
     ensures { Checked limits.now (guard_expression (names_in names.now) bindings.now (guard_of guard.now)) result }
 {
@@ -56,6 +39,6 @@ pub(crate) fn question(
             let items = one(alloc, asked.copy(alloc)?)?;
             checked(alloc, limits, head, items)
         }
-        Guard::Cond(condition) => judged(limits, place(alloc, names, bindings, condition)),
+        Guard::Cond(condition) => placed(alloc, names, limits, bindings, condition),
     }
 }

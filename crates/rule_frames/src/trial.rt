@@ -5,7 +5,7 @@ ghost use Rattle.semantics.specs.Definitions.{Definitions, definition_of};
 ghost use Rattle.semantics.specs.Match as match;
 ghost use Rattle.semantics.specs.Rule.{condition_of};
 ghost use Rattle.evaluation_steps.specs.Stopping.{AreBounded};
-ghost use Rattle.builtin_names.specs.Named.{HasBuiltins, names_in};
+ghost use Rattle.builtin_names.specs.Named.{names_in};
 ghost use Rattle.match_seq.specs.Goals.{guard_of};
 ghost use Rattle.rule_frames.specs.Reading.{Tells, Tried};
 ghost use Rattle.rule_frames.specs.Rules.{holds};
@@ -14,12 +14,11 @@ ghost use Rattle.rule_frames.specs.Trials.{asked_trial, bindings_left, left_tria
 use crate::guards::question;
 use crate::heads::Told;
 use crate::tries::Try;
-use builtin_names::is_name;
+use builtin_names::{Vocabulary, is_name};
 use evaluation_steps::Halt;
 use expr_tree::{Expr, Limits};
 use item_list::Items;
 use match_seq::{AttrSource, Found, Guard, Guards, Matcher};
-use name_table::Names;
 use rule_store::{Rule, condition_of, result_of};
 use semantics::Builtin;
 use std::alloc::{AllocError, Global};
@@ -37,8 +36,7 @@ pub(crate) struct Trial {
 }
 
 /// Whether the answer to a guard is True.
-fn holds(names: &Names, answer: &Option<Expr>) -> bool
-    requires names { HasBuiltins names.now }
+fn holds(names: &Vocabulary, answer: &Option<Expr>) -> bool
     ensures { result ≡ holds (names_in names.now) answer.now }
 {
     match answer {
@@ -51,12 +49,11 @@ impl Trial {
     /// The trial of a rule before its first binding.
     pub(crate) fn start<A: AttrSource>(
         alloc: Global,
-        names: &Names,
+        names: &Vocabulary,
         rule: &Rule,
         subject: &Expr,
         attrs: &A,
     ) -> Result<Trial, AllocError>
-        requires names { HasBuiltins names.now }
         ensures right { IfOk result (λ t. t.right ≡ rule.now.right) }
         ensures matcher { IfOk result (λ t. (d : Definitions) → Tells (names_in names.now) d (A.told attrs.now) → t.matcher ≡ match.matches (names_in names.now) (told (map (λ s. (s, definition_of (names_in names.now) d s)) (match.heads (names_in names.now) rule.now.left))) rule.now.left subject.now) }
     {
@@ -74,11 +71,10 @@ impl Trial {
     fn ask(
         &mut self,
         alloc: Global,
-        names: &Names,
+        names: &Vocabulary,
         limits: &Limits,
         turn: bool,
     ) -> Result<Try, Halt>
-        requires names { HasBuiltins names.now }
         requires bounded { AreBounded limits.now }
         ensures { (d : Definitions) → Tried (names_in names.now) d limits.now (asked_trial (names_in names.now) turn self.old) (trying (names_in names.now) result) (left_trial (names_in names.now) self.new) }
     {
@@ -98,8 +94,7 @@ impl Trial {
     }
 
     /// Takes a binding, with the right side's condition as its last guard.
-    fn take(&mut self, alloc: Global, names: &Names, found: Found) -> Result<(), AllocError>
-        requires names { HasBuiltins names.now }
+    fn take(&mut self, alloc: Global, names: &Vocabulary, found: Found) -> Result<(), AllocError>
         ensures binding { OnOk result (self.new.binding ≡ found.bindings) }
         ensures guards { OnOk result (map guard_of self.new.guards ≡ map guard_of found.guards ++ map match.Cond (condition_of (names_in names.now) self.old.right)) }
         ensures same { OnOk result ((self.new.at ≡ 0) × (self.new.right ≡ self.old.right) × (self.new.matcher ≡ self.old.matcher)) }
@@ -121,10 +116,9 @@ impl Trial {
     pub(crate) fn next(
         &mut self,
         alloc: Global,
-        names: &Names,
+        names: &Vocabulary,
         limits: &Limits,
     ) -> Result<Try, Halt>
-        requires names { HasBuiltins names.now }
         requires bounded { AreBounded limits.now }
         ensures { (d : Definitions) → Tried (names_in names.now) d limits.now (bindings_left (names_in names.now) self.old) (trying (names_in names.now) result) (left_trial (names_in names.now) self.new) }
     {
@@ -142,11 +136,10 @@ impl Trial {
     pub(crate) fn step(
         &mut self,
         alloc: Global,
-        names: &Names,
+        names: &Vocabulary,
         limits: &Limits,
         answer: &Option<Expr>,
     ) -> Result<Try, Halt>
-        requires names { HasBuiltins names.now }
         requires bounded { AreBounded limits.now }
         ensures { (d : Definitions) → Tried (names_in names.now) d limits.now (left_trial (names_in names.now) self.old answer.now) (trying (names_in names.now) result) (left_trial (names_in names.now) self.new) }
     {

@@ -1,4 +1,3 @@
 pub mod Marked
 pub mod Counts
 pub mod Places
-pub mod Removed

@@ -4,13 +4,12 @@ ghost use Rattle.expr_tree.specs.Tree.{trees, sizes};
 ghost use Rattle.semantics.specs.Names.{is_name};
 ghost use Rattle.semantics.specs.Rule as language;
 ghost use Rattle.semantics.specs.declared.builtin.Builtin.{Builtin};
-ghost use Rattle.builtin_names.specs.Named.{HasBuiltins, names_in};
+ghost use Rattle.builtin_names.specs.Named.{names_in};
 ghost use Rattle.rule_store.specs.Keys.{numbers_of, is_counted};
 
 use crate::rule::condition_of;
-use builtin_names::is_name;
+use builtin_names::{Vocabulary, is_name};
 use expr_tree::{Expr, Node};
-use name_table::Names;
 use semantics::Builtin;
 use std::cmp::Ordering;
 
@@ -41,8 +40,7 @@ enum Counted {
 
 impl Key {
     /// The key of the rule with these sides.
-    pub(crate) fn of(names: &Names, left: &Expr, right: &Expr) -> Key
-        requires { HasBuiltins names.now }
+    pub(crate) fn of(names: &Vocabulary, left: &Expr, right: &Expr) -> Key
         ensures { numbers_of result ≡ language.key_of (names_in names.now) (record { left = left.now; right = right.now }) }
     {
         let in_left = occurrences(Counted::Guards, names, left);
@@ -70,16 +68,14 @@ impl Key {
 }
 
 /// Whether a head is that of a condition or a test.
-fn is_guard(names: &Names, head: &Expr) -> bool
-    requires { HasBuiltins names.now }
+fn is_guard(names: &Vocabulary, head: &Expr) -> bool
     ensures { result ≡ (is_name (names_in names.now) Builtin.Condition head.now || is_name (names_in names.now) Builtin.PatternTest head.now) }
 {
     is_name(names, Builtin::Condition, head) || is_name(names, Builtin::PatternTest, head)
 }
 
 #[tactic(auto, using(expr_tree::proofs::Callers::tree_steps))]
-fn is_counted(what: Counted, names: &Names, head: &Expr, items: &[Expr]) -> bool
-    requires { HasBuiltins names.now }
+fn is_counted(what: Counted, names: &Vocabulary, head: &Expr, items: &[Expr]) -> bool
     ensures { result ≡ is_counted what (names_in names.now) head.now (trees items.now) }
 {
     let count = items.len();
@@ -95,8 +91,7 @@ fn is_counted(what: Counted, names: &Names, head: &Expr, items: &[Expr]) -> bool
 /// How many subexpressions are counted.
 #[cycle(occurrences)]
 #[tactic(auto, using(crate::proofs::Counts::count_steps))]
-fn occurrences(what: Counted, names: &Names, e: &Expr) -> u64
-    requires { HasBuiltins names.now }
+fn occurrences(what: Counted, names: &Vocabulary, e: &Expr) -> u64
     ensures value { result ≡ language.occurrences (is_counted what (names_in names.now)) e.now }
     ensures within { result ≤ 4000000 }
 {
@@ -114,8 +109,7 @@ fn occurrences(what: Counted, names: &Names, e: &Expr) -> u64
 
 #[cycle(occurrences)]
 #[tactic(auto, using(crate::proofs::Counts::count_steps))]
-fn occurrences_in(what: Counted, names: &Names, items: &[Expr]) -> u64
-    requires names { HasBuiltins names.now }
+fn occurrences_in(what: Counted, names: &Vocabulary, items: &[Expr]) -> u64
     requires small { sizes (trees items.now) ≤ 4000000 }
     ensures value { result ≡ language.occurrences_in (is_counted what (names_in names.now)) (trees items.now) }
     ensures within { result ≤ 4000000 }

@@ -1,9 +1,8 @@
 ghost use Rattle.std.specs.Prelude.{◌≡◌, ◌↔◌, IsTrue};
-ghost use Rattle.builtin_names.specs.Named.{HasBuiltins, names_in};
+ghost use Rattle.builtin_names.specs.Named.{names_in};
 ghost use Rattle.rule_store.specs.Marks.{marks_of};
 
-use builtin_names::symbol_for;
-use name_table::Names;
+use builtin_names::{Vocabulary, symbol_for};
 use semantics::Builtin;
 
 /// The bases of the names that a key counts.
@@ -17,8 +16,7 @@ pub(crate) struct Marks {
 }
 
 impl Marks {
-    pub(crate) fn of(names: &Names) -> Marks
-        requires { HasBuiltins names.now }
+    pub(crate) fn of(names: &Vocabulary) -> Marks
         ensures { result ≡ marks_of (names_in names.now) }
     {
         Marks {

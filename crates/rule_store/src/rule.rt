@@ -1,14 +1,13 @@
 ghost use Rattle.std.specs.Prelude.{◌≡◌, IfOk};
 ghost use Rattle.std.specs.Option.{option_copied, option_to_list};
 ghost use Rattle.semantics.specs.Rule as language;
-ghost use Rattle.builtin_names.specs.Named.{HasBuiltins, names_in};
+ghost use Rattle.builtin_names.specs.Named.{names_in};
 ghost use Rattle.rule_store.specs.Keys.{numbers_of};
 
 use crate::key::Key;
 use crate::marks::Marks;
-use builtin_names::items_under;
+use builtin_names::{Vocabulary, items_under};
 use expr_tree::{Expr, pair_of};
-use name_table::Names;
 use semantics::Builtin;
 use std::alloc::{AllocError, Global};
 use std::marker::Model;
@@ -39,8 +38,7 @@ impl Model for Rule {
 
 impl Rule {
     /// The rule with these sides.
-    pub fn of(names: &Names, left: Expr, right: Expr) -> Rule
-        requires { HasBuiltins names.now }
+    pub fn of(names: &Vocabulary, left: Expr, right: Expr) -> Rule
         ensures { result ≡ record { left = left; right = right } }
     {
         let key = Key::of(names, &left, &right);
@@ -68,8 +66,7 @@ impl Rule {
     }
 
     /// The key. Nothing is counted for the names that the rule was made with.
-    pub fn key(&self, names: &Names) -> Key
-        requires { HasBuiltins names.now }
+    pub fn key(&self, names: &Vocabulary) -> Key
         ensures { numbers_of result ≡ language.key_of (names_in names.now) self.now }
     {
         if self.marks.are(&Marks::of(names)) {
@@ -92,8 +89,7 @@ impl Rule {
     }
 
     /// Whether a rule takes the place of an old one: left sides and conditions are the same.
-    pub(crate) fn replaces(&self, names: &Names, old: &Rule) -> bool
-        requires { HasBuiltins names.now }
+    pub(crate) fn replaces(&self, names: &Vocabulary, old: &Rule) -> bool
         ensures { result ≡ language.replaces (names_in names.now) self.now old.now }
     {
         self.left.equals(&old.left)
@@ -116,8 +112,7 @@ fn same_condition(a: Option<&Expr>, b: Option<&Expr>) -> bool
 
 /// The condition in a right side `r /; c`.
 #[tactic(auto, using(expr_tree::proofs::Callers::tree_steps, expr_tree::proofs::Pairs::pair_steps))]
-pub fn condition_of<'a>(names: &Names, right: &'a Expr) -> Option<&'a Expr>
-    requires { HasBuiltins names.now }
+pub fn condition_of<'a>(names: &Vocabulary, right: &'a Expr) -> Option<&'a Expr>
     ensures { option_to_list (option_copied result) ≡ language.condition_of (names_in names.now) right.now }
 {
     let items = items_under(names, Builtin::Condition, right)?;
@@ -127,8 +122,7 @@ pub fn condition_of<'a>(names: &Names, right: &'a Expr) -> Option<&'a Expr>
 
 /// What a right side gives: `r` of `r /; c`, and else all of it.
 #[tactic(auto, using(expr_tree::proofs::Callers::tree_steps, expr_tree::proofs::Pairs::pair_steps))]
-pub fn result_of<'a>(names: &Names, right: &'a Expr) -> &'a Expr
-    requires { HasBuiltins names.now }
+pub fn result_of<'a>(names: &Vocabulary, right: &'a Expr) -> &'a Expr
     ensures { result.now ≡ language.result_of (names_in names.now) right.now }
 {
     let Some(items) = items_under(names, Builtin::Condition, right) else {

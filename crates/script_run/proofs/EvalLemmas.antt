@@ -65,9 +65,9 @@ module _ (table : NameTable) (h : HasBuiltins table) (steps : ℕ) (limits : Lim
       subst (λ s. EndsAlone s (length table.texts) d e o st.definitions) told_is (ends_alone told (length table.texts) (rows_kept table h) d e events o st defined kept ends unused)
 
   pub ended_by_value : (d : Definitions) (e : Tree) (events : List Event) (outcome : Outcome) (v : Tree) (st : State) → AreKeptIn (length table.texts) d → IsKept (length table.texts) e
-      → outcome ≡ Outcome.Value v → Says told (eval told d e) events outcome st → st.used ≡ false → EndsAlone set (length table.texts) d e (Value v) st.definitions
-  ended_by_value d e events outcome v st defined kept is says unused = ended d e events (Value v) st defined kept (subst (λ o. Says told (eval told d e) events o st) is says) unused
+      → outcome ≡ Outcome.Value v → Says (eval told d e events) outcome st → st.used ≡ false → EndsAlone set (length table.texts) d e (Value v) st.definitions
+  ended_by_value d e events outcome v st defined kept is says unused = ended d e events (Value v) st defined kept (subst (λ o. Says (eval told d e events) o st) is says) unused
 
   pub ended_by_stop : (d : Definitions) (e : Tree) (events : List Event) (outcome : Outcome) (cause : Stop) (st : State) → AreKeptIn (length table.texts) d → IsKept (length table.texts) e
-      → outcome ≡ Outcome.Stopped cause → Says told (eval told d e) events outcome st → st.used ≡ false → EndsAlone set (length table.texts) d e (Stopped cause) st.definitions
-  ended_by_stop d e events outcome cause st defined kept is says unused = ended d e events (Stopped cause) st defined kept (subst (λ o. Says told (eval told d e) events o st) is says) unused
+      → outcome ≡ Outcome.Stopped cause → Says (eval told d e events) outcome st → st.used ≡ false → EndsAlone set (length table.texts) d e (Stopped cause) st.definitions
+  ended_by_stop d e events outcome cause st defined kept is says unused = ended d e events (Stopped cause) st defined kept (subst (λ o. Says (eval told d e events) o st) is says) unused

@@ -7,4 +7,4 @@ pub mod TranscriptLemmas
 pub mod WordLemmas
 pub mod WritingLemmas
 pub mod RunLemmas
-pub mod RowLemmas
+pub mod OutsideLemmas

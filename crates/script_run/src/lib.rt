@@ -17,5 +17,4 @@ mod writing;
 
 pub use report::{Report, Status};
 pub use run::run_alone;
-pub use unbuilt::other_rows_are_built;
 pub use words::steps_of;

@@ -2,15 +2,14 @@
 ghost use Rattle.std.specs.Prelude.{◌≡◌, IfOk, length};
 ghost use Rattle.script_text.specs.Laws.{IsKept};
 ghost use Rattle.script_text.specs.Spelling.{by_texts};
-ghost use Rattle.builtin_names.specs.Named.{HasBuiltins, names_in};
+ghost use Rattle.builtin_names.specs.Named.{names_in};
 ghost use Rattle.syntax.specs.Lines.{numbered_line, out_line, syntax_line};
 ghost use Rattle.sequential_transcript.specs.Transcript.{unbuilt_line};
 
-use builtin_names::is_name;
+use builtin_names::{Vocabulary, is_name};
 use expr_tree::{Expr, Text};
 use input_form::value_text;
 use itoa::Buffer;
-use name_table::Names;
 use semantics::Builtin;
 use std::alloc::{AllocError, Global};
 
@@ -31,11 +30,10 @@ fn numbered_line(alloc: Global, word: &str, n: u64, rest: &str) -> Result<Text, 
 #[tactic(auto, using(crate::proofs::LineLemmas::line_steps))]
 pub(crate) fn out_line(
     alloc: Global,
-    names: &Names,
+    names: &Vocabulary,
     n: u64,
     value: &Expr,
 ) -> Result<Text, AllocError>
-    requires names { HasBuiltins names.now }
     requires kept { IsKept (length names.now.texts) value.now }
     ensures { IfOk result (λ t. t ≡ out_line (by_texts names.now.texts) (names_in names.now) n value.now) }
 {
@@ -44,7 +42,7 @@ pub(crate) fn out_line(
     }
     let mut rest = Text::new(alloc);
     rest.append("= ")?;
-    rest.append(value_text(alloc, value, names)?.as_str())?;
+    rest.append(value_text(alloc, value, names.names())?.as_str())?;
     numbered_line(alloc, "Out", n, rest.as_str())
 }
 

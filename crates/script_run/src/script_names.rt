@@ -2,17 +2,15 @@
 ghost use Rattle.std.specs.Prelude.{◌≡◌, ◌≤◌, ◌++◌, length, IfOk, OnOk};
 ghost use Rattle.script_text.specs.Cells.{cells};
 ghost use Rattle.syntax.specs.Tokens as syn;
-ghost use Rattle.builtin_names.specs.Named.{HasBuiltins};
 ghost use Rattle.lex_form.specs.Lexes as form;
 ghost use Rattle.lex_form.specs.Spans.{texts_of as span_texts};
 ghost use Rattle.sequential_transcript.specs.Transcript.{texts_of, written_names};
 ghost use Rattle.script_run.specs.Cells.{AreCellSpans, AreLexed};
 
 use crate::cell_text::cell_text;
-use builtin_names::names_with;
+use builtin_names::{Vocabulary, names_with};
 use expr_tree::Texts;
 use lex_form::{Lexed, Spans, lex, names_of};
-use name_table::Names;
 use std::alloc::{AllocError, Global};
 
 /// The tokens of each cell.
@@ -65,13 +63,12 @@ pub(crate) fn names_of_script(
     script: &str,
     spans: &Spans,
     lexed: &[Lexed],
-) -> Result<Names, AllocError>
+) -> Result<Vocabulary, AllocError>
     requires short { length script.now ≤ 1048576 }
     requires spans { AreCellSpans script.now spans.now }
     requires lexed { AreLexed (span_texts script.now spans.now) lexed.now }
     requires cells { span_texts script.now spans.now ≡ cells script.now }
     ensures texts { IfOk result (λ names. names.texts ≡ texts_of (cells script.now)) }
-    ensures known { IfOk result (λ names. HasBuiltins names) }
 {
     let written = written_names(alloc, script, spans, lexed)?;
     names_with(alloc, &written)

@@ -5,16 +5,15 @@ ghost use Rattle.script_text.specs.Laws.{IsKept};
 ghost use Rattle.script_text.specs.Spelling.{by_texts, place_in};
 ghost use Rattle.semantics.specs.Definitions.{empty};
 ghost use Rattle.semantics.specs.Eval as sem;
-ghost use Rattle.builtin_names.specs.Named.{HasBuiltins, names_in};
+ghost use Rattle.builtin_names.specs.Named.{names_in};
 ghost use Rattle.laws_bases.specs.Kept.{AreKeptIn, IsKeptValue};
 ghost use Rattle.sequential_transcript.specs.Transcript.{limits_of, alone, ran, value_in};
 
 use crate::outside::NoOutside;
 use crate::unbuilt::has_unbuilt;
-use builtin_names::name;
-use eval_seq::{Context, Defs, Ended, Mode, Outcome, eval};
+use builtin_names::{Vocabulary, name};
+use eval_seq::{Context, Defs, KernelState, Mode, Outcome, eval};
 use expr_tree::{Expr, Limits};
-use name_table::Names;
 use semantics::Builtin;
 use std::alloc::{AllocError, Global};
 
@@ -46,36 +45,36 @@ fn is_within_depth(e: &Expr)
 }
 
 /// The value of an expression that is evaluated alone; `$Aborted` where it stops. Where mode or kernel mattered, a call was needed, or
-/// something that is not built was met, though no name of it stands in the cell, there is no answer but that of want of memory.
+/// a value was thrown, though no name of a row that does so stands in the cell, there is no answer but that of want of memory.
 fn evaluated(
     alloc: Global,
-    names: &Names,
+    names: &Vocabulary,
     steps: u64,
-    defs: &mut Defs,
+    state: &mut KernelState,
     e: &Expr,
 ) -> Result<Expr, AllocError>
-    requires names { HasBuiltins names.now }
     requires kept { IsKept (length names.now.texts) e.now }
-    requires kept_before { AreKeptIn (length names.now.texts) defs.old }
-    ensures value { IfOk result (λ v. Some v ≡ value_in (names_in names.now) (limits_of steps) (sem.eval (alone (by_texts names.now.texts) (names_in names.now) steps) defs.old e.now []).outcome) }
-    ensures definitions { IfOk result (λ v. defs.new ≡ (sem.eval (alone (by_texts names.now.texts) (names_in names.now) steps) defs.old e.now []).definitions) }
+    requires kept_before { AreKeptIn (length names.now.texts) state.old.defs }
+    ensures value { IfOk result (λ v. Some v ≡ value_in (names_in names.now) (limits_of steps) (sem.eval (alone (by_texts names.now.texts) (names_in names.now) steps) state.old.defs e.now []).outcome) }
+    ensures definitions { IfOk result (λ v. state.new.defs ≡ (sem.eval (alone (by_texts names.now.texts) (names_in names.now) steps) state.old.defs e.now []).definitions) }
     ensures kept { IfOk result (λ v. IsKept (length names.now.texts) v) }
-    ensures kept_after { IfOk result (λ v. AreKeptIn (length names.now.texts) defs.new) }
+    ensures kept_after { IfOk result (λ v. AreKeptIn (length names.now.texts) state.new.defs) }
 {
+    let _rows = names.names();
     let context = Context {
         names,
         mode: Mode::Cell,
         kernel: 0,
     };
-    let mut outside = NoOutside {};
-    let ended = eval(alloc, &context, &limits_of(steps), defs, &mut outside, e);
-    if ended.used {
+    let mut outside = NoOutside { names };
+    let outcome = eval(alloc, &context, &limits_of(steps), state, &mut outside, e);
+    if state.used {
         return Err(AllocError);
     }
-    match ended.outcome {
+    match outcome {
         Outcome::Value(value) => Ok(value),
         Outcome::Stopped(_) => Ok(name(names, Builtin::Aborted)),
-        Outcome::Quit | Outcome::Closed | Outcome::NoMemory | Outcome::Unbuilt(_) => {
+        Outcome::Thrown(_) | Outcome::Quit | Outcome::Closed | Outcome::NoMemory => {
             Err(AllocError)
         }
     }
@@ -85,22 +84,21 @@ fn evaluated(
 #[tactic(auto, using(crate::proofs::TranscriptLemmas::value_steps))]
 pub(crate) fn value_of(
     alloc: Global,
-    names: &Names,
+    names: &Vocabulary,
     steps: u64,
-    defs: &mut Defs,
+    state: &mut KernelState,
     e: Expr,
 ) -> Result<Option<Expr>, AllocError>
-    requires names { HasBuiltins names.now }
     requires kept { IsKept (length names.now.texts) e }
-    requires kept_before { AreKeptIn (length names.now.texts) defs.old }
-    ensures value { IfOk result (λ v. v ≡ (ran (by_texts names.now.texts) (names_in names.now) (place_in names.now.texts) steps defs.old e).value) }
-    ensures definitions { IfOk result (λ v. defs.new ≡ (ran (by_texts names.now.texts) (names_in names.now) (place_in names.now.texts) steps defs.old e).definitions) }
+    requires kept_before { AreKeptIn (length names.now.texts) state.old.defs }
+    ensures value { IfOk result (λ v. v ≡ (ran (by_texts names.now.texts) (names_in names.now) (place_in names.now.texts) steps state.old.defs e).value) }
+    ensures definitions { IfOk result (λ v. state.new.defs ≡ (ran (by_texts names.now.texts) (names_in names.now) (place_in names.now.texts) steps state.old.defs e).definitions) }
     ensures kept { IfOk result (λ v. IsKeptValue (length names.now.texts) v) }
-    ensures kept_after { IfOk result (λ v. AreKeptIn (length names.now.texts) defs.new) }
+    ensures kept_after { IfOk result (λ v. AreKeptIn (length names.now.texts) state.new.defs) }
 {
     is_within_depth(&e);
     if has_unbuilt(names, &e) {
         return Ok(None);
     }
-    Ok(Some(evaluated(alloc, names, steps, defs, &e)?))
+    Ok(Some(evaluated(alloc, names, steps, state, &e)?))
 }

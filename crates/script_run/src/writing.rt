@@ -1,7 +1,6 @@
 //! Writes the transcript of a script.
 ghost use Rattle.std.specs.Prelude.{◌≡◌, ◌≢◌, ◌≤◌, length};
 ghost use Rattle.script_text.specs.Cells.{cells};
-ghost use Rattle.builtin_names.specs.Named.{HasBuiltins};
 ghost use Rattle.lex_form.specs.Spans.{texts_of as span_texts};
 ghost use Rattle.sequential_transcript.specs.Transcript.{texts_of};
 ghost use Rattle.script_run.specs.Cells.{AreCellSpans, AreLexed};
@@ -12,8 +11,9 @@ use crate::cell_text::cell_text;
 use crate::report::Status;
 use crate::script_names::{lex_cells, names_of_script};
 use crate::value::first_definitions;
+use builtin_names::Vocabulary;
+use eval_seq::KernelState;
 use lex_form::{Lexed, Spans, cells};
-use name_table::Names;
 use port_io::{Failed, Sink};
 use std::alloc::Global;
 
@@ -21,7 +21,7 @@ use std::alloc::Global;
 #[tactic(auto, using(crate::proofs::WritingLemmas::writing_steps))]
 fn write_cells<K: Sink>(
     alloc: Global,
-    names: &Names,
+    names: &Vocabulary,
     steps: u64,
     script: &str,
     spans: &Spans,
@@ -33,18 +33,18 @@ fn write_cells<K: Sink>(
     requires lexed { AreLexed (span_texts script.now spans.now) lexed.now }
     requires cells { span_texts script.now spans.now ≡ cells script.now }
     requires texts { names.now.texts ≡ texts_of (cells script.now) }
-    requires names { HasBuiltins names.now }
     ensures written { Writes (K.held sink.old) (K.held sink.new) (K.faults sink.old) (K.faults sink.new) steps script.now result }
     ensures counted { K.faults sink.old ≤ K.faults sink.new }
     ensures sure { TakesAll (K.takes sink.old) steps script.now → result ≢ Status.WriteFault }
 {
-    let Ok(mut defs) = first_definitions(alloc) else {
+    let Ok(defs) = first_definitions(alloc) else {
         return Status::NoMemory;
     };
+    let mut state = KernelState::new(defs);
     for (at, span) in spans.as_slice().iter().enumerate() {
         let cell = cell_text(script, *span);
         let n = at as u64 + 1;
-        let Ok(line) = run_cell(alloc, names, steps, &mut defs, n, cell, &lexed[at]) else {
+        let Ok(line) = run_cell(alloc, names, steps, &mut state, n, cell, &lexed[at]) else {
             return Status::NoMemory;
         };
         match sink.write_all(line.as_str().as_bytes()) {

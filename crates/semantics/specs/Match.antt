@@ -102,14 +102,39 @@ kind names h =
           ]
     ]
 
--- from the kind of a pattern, the number of its items, and whether the first and the second of them are single
-abbrev pub single_by : Kind → ℕ → Bool → Bool → Bool
-single_by blank n first second = leb n 1
-single_by pattern n first second = (n == 2) && second
-single_by test n first second = (n == 2) && first
-single_by condition n first second = (n == 2) && first
-single_by hold n first second = (n == 1) && first
-single_by _ n first second = false
+abbrev pub is_symbol : Tree → Bool
+is_symbol (symbol s) = true
+is_symbol _ = false
+
+abbrev pub first_is_symbol : Trees → Bool
+first_is_symbol nil = false
+first_is_symbol (cons p ps) = is_symbol p
+
+-- the shapes of the constructs, by the number of items and whether the first is a symbol
+abbrev pub has_shape : Kind → ℕ → Bool → Bool
+has_shape blank n named = leb n 1
+has_shape sequence n named = leb n 1
+has_shape null_sequence n named = leb n 1
+has_shape pattern n named = (n == 2) && named
+has_shape test n named = n == 2
+has_shape condition n named = n == 2
+has_shape alternatives n named = true
+has_shape hold n named = n == 1
+has_shape verbatim n named = n == 1
+has_shape other n named = false
+
+-- whether a head and items are a construct; in another shape they are an ordinary pattern
+abbrev pub is_construct : Names → Tree → Trees → Bool
+is_construct names h ps = has_shape (kind names h) (count ps) (first_is_symbol ps)
+
+-- from the kind of a construct, and whether the first and the second of its items are single
+abbrev pub single_by : Kind → Bool → Bool → Bool
+single_by blank first second = true
+single_by pattern first second = second
+single_by test first second = first
+single_by condition first second = first
+single_by hold first second = first
+single_by _ first second = false
 
 -- a single blank, also under a name, a test, a condition or HoldPattern
 abbrev mutual
@@ -117,7 +142,7 @@ abbrev mutual
   is_single names (integer n) = false
   is_single names (string t) = false
   is_single names (symbol s) = false
-  is_single names (normal h ps) = single_by (kind names h) (count ps) (first_is_single names ps) (second_is_single names ps)
+  is_single names (normal h ps) = is_construct names h ps && single_by (kind names h) (first_is_single names ps) (second_is_single names ps)
 
   pub first_is_single : Names → Trees → Bool
   first_is_single names nil = false
@@ -204,7 +229,7 @@ abbrev pub tree_list : List Element → List Tree
 tree_list [] = []
 tree_list (p ∷ ps) = p.tree ∷ tree_list ps
 
--- a construct whose shape is not one of those below is an ordinary pattern
+-- in a shape that is none of those below a construct's head makes an ordinary pattern
 abbrev pub construct : Names → Kind → List Element → Matcher → Matcher
 construct names blank [] ordinary run found = when (is_one run) found
 construct names blank (h ∷ []) ordinary run found = when (is_one run && have_head (tree_list (h ∷ [])) run) found
@@ -219,11 +244,6 @@ construct names alternatives ps ordinary run found = match_any ps run found
 construct names hold (p ∷ []) ordinary run found = p.matcher run found
 construct names verbatim (p ∷ []) ordinary run found = literal p.tree run found
 construct names _ _ ordinary run found = ordinary run found
-
--- whether a head is a construct, whose attributes nothing asks for
-abbrev pub is_construct : Kind → Bool
-is_construct other = false
-is_construct _ = true
 
 -- A tells Flat and Orderless of a symbol; another head has neither
 abbrev pub how_of : (Sym → Matching) → Tree → Matching
@@ -245,17 +265,17 @@ abbrev mutual
 unfoldable pub matches : Names → (Sym → Matching) → Tree → Tree → List Found
 matches names A p e = matcher names A p (e ∷ []) nothing_found
 
--- the symbols that A is asked for: the heads of normal patterns that are no construct
-abbrev pub asked : Names → Tree → List Sym
-asked names (symbol s) = elim (is_construct (kind names (symbol s))) [ true ↦ [] | false ↦ s ∷ [] ]
-asked names _ = []
+-- the symbols that A is asked for: the heads of ordinary patterns
+abbrev pub asked : Names → Tree → Trees → List Sym
+asked names (symbol s) ps = elim (is_construct names (symbol s) ps) [ true ↦ [] | false ↦ s ∷ [] ]
+asked names _ ps = []
 
 abbrev mutual
   pub heads : Names → Tree → List Sym
   heads names (integer n) = []
   heads names (string t) = []
   heads names (symbol s) = []
-  heads names (normal h ps) = asked names h ++ (heads names h ++ heads_in names ps)
+  heads names (normal h ps) = asked names h ps ++ (heads names h ++ heads_in names ps)
 
   pub heads_in : Names → Trees → List Sym
   heads_in names nil = []

@@ -1,18 +1,16 @@
 ghost use Rattle.std.specs.Prelude.{◌≡◌, ◌∷◌, []};
 ghost use Rattle.expr_tree.specs.Tree.{symbol, normal, nil};
 ghost use Rattle.semantics.specs.Sections.{changes_rule, changes_value};
-ghost use Rattle.builtin_names.specs.Named.{HasBuiltins, names_in};
+ghost use Rattle.builtin_names.specs.Named.{names_in};
 ghost use Rattle.shared_calls.specs.Access.{access_in, changed};
 
 use crate::shared::{ShareKind, Shared};
-use builtin_names::is_known;
+use builtin_names::{Vocabulary, is_known};
 use expr_tree::{Expr, Node, Sym};
-use name_table::Names;
 use semantics::Builtin;
 
 /// Whether a row writes a rule or an own value: these are accesses of shared functions too.
-fn changes_rule(names: &Names, row: Sym) -> bool
-    requires { HasBuiltins names.now }
+fn changes_rule(names: &Vocabulary, row: Sym) -> bool
     ensures { result ≡ changes_rule (names_in names.now) (symbol row) }
 {
     is_known(names, Builtin::Set, row)
@@ -21,8 +19,7 @@ fn changes_rule(names: &Names, row: Sym) -> bool
 }
 
 /// Whether a row changes an own value otherwise.
-fn changes_value(names: &Names, row: Sym) -> bool
-    requires { HasBuiltins names.now }
+fn changes_value(names: &Vocabulary, row: Sym) -> bool
     ensures { result ≡ changes_value (names_in names.now) (symbol row) }
 {
     is_known(names, Builtin::Increment, row)
@@ -39,8 +36,7 @@ fn changes_value(names: &Names, row: Sym) -> bool
 
 /// The shared symbol that a row would change, as `s` of `s = v` or `f` of `f[x] = v`.
 #[tactic(auto, using(crate::proofs::Changed::changed_steps))]
-pub fn changed_symbol(shared: &Shared, names: &Names, row: Sym, items: &[Expr]) -> Option<Sym>
-    requires { HasBuiltins names.now }
+pub fn changed_symbol(shared: &Shared, names: &Vocabulary, row: Sym, items: &[Expr]) -> Option<Sym>
     ensures { result ≡ changed (names_in names.now) shared.now (symbol row) items.now }
 {
     let [first, ..] = items else {
@@ -56,8 +52,7 @@ pub fn changed_symbol(shared: &Shared, names: &Names, row: Sym, items: &[Expr]) 
     }
 }
 
-fn changed_variable(shared: &Shared, names: &Names, row: Sym, s: Sym) -> Option<Sym>
-    requires { HasBuiltins names.now }
+fn changed_variable(shared: &Shared, names: &Vocabulary, row: Sym, s: Sym) -> Option<Sym>
     ensures { result ≡ changed (names_in names.now) shared.now (symbol row) (symbol s ∷ []) }
 {
     if !shared.has(ShareKind::Variable, s) {
@@ -72,8 +67,7 @@ fn changed_variable(shared: &Shared, names: &Names, row: Sym, s: Sym) -> Option<
     None
 }
 
-fn changed_function(shared: &Shared, names: &Names, row: Sym, f: Sym) -> Option<Sym>
-    requires { HasBuiltins names.now }
+fn changed_function(shared: &Shared, names: &Vocabulary, row: Sym, f: Sym) -> Option<Sym>
     ensures { result ≡ changed (names_in names.now) shared.now (symbol row) (normal (symbol f) nil ∷ []) }
 {
     if !shared.has(ShareKind::Function, f) {
@@ -89,8 +83,7 @@ fn changed_function(shared: &Shared, names: &Names, row: Sym, f: Sym) -> Option<
 /// The symbol that an expression accesses, if it is an access: a shared variable, `f[..]` with a shared function `f`, or a row that
 /// changes one of them.
 #[tactic(auto, using(expr_tree::proofs::Callers::tree_steps))]
-pub fn access_of(shared: &Shared, names: &Names, e: &Expr) -> Option<Sym>
-    requires { HasBuiltins names.now }
+pub fn access_of(shared: &Shared, names: &Vocabulary, e: &Expr) -> Option<Sym>
     ensures { result ≡ access_in (names_in names.now) shared.now e.now }
 {
     match e.node() {

@@ -1,4 +1,4 @@
-ghost use Rattle.std.specs.Prelude.{◌≡◌, ◌++◌, ◌∷◌, [], length, map, slice_get, OnOk, OnErr};
+ghost use Rattle.std.specs.Prelude.{◌≡◌, ◌++◌, ◌∷◌, [], length, map, slice_get, IfOk, OnOk, OnErr};
 ghost use Rattle.std.specs.Option.{option_map};
 ghost use Rattle.semantics.specs.Definitions as d;
 ghost use Rattle.semantics.specs.Sections.{same_share};
@@ -50,6 +50,15 @@ impl Shared {
         Shared {
             symbols: Vec::new(alloc),
         }
+    }
+
+    /// The same list.
+    pub fn copy(&self, alloc: Global) -> Result<Shared, AllocError>
+        ensures { IfOk result (λ s. s ≡ self.now) }
+    {
+        Ok(Shared {
+            symbols: copies_of(alloc, self.symbols.as_slice())?,
+        })
     }
 
     pub fn len(&self) -> usize
@@ -116,6 +125,16 @@ impl Shared {
             Some(found) => found.is(kind),
         }
     }
+}
+
+fn copies_of(alloc: Global, symbols: &[SharedSymbol]) -> Result<Vec<SharedSymbol>, AllocError>
+    ensures { IfOk result (λ copies. copies.items ≡ symbols.now) }
+{
+    let mut copies = Vec::with_capacity(alloc, symbols.len())?;
+    for symbol in symbols {
+        copies.push(*symbol)?;
+    }
+    Ok(copies)
 }
 
 fn find_in(symbols: &[SharedSymbol], symbol: Sym) -> Option<SharedSymbol>

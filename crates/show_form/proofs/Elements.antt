@@ -1,11 +1,10 @@
 -- One element more.
-use Rattle.std.proofs.Common.{◌≡◌, refl, ap, subst, ◌∙◌, ℕ, ◌+◌, ◌<◌, Bool, true, false, cond, List, [], ◌∷◌, ◌++◌, length, get_or, drop, arith, ne_eqb}
+use Rattle.std.proofs.Common.{◌≡◌, refl, ap, ◌∙◌, ℕ, ◌+◌, ◌<◌, Bool, true, false, cond, List, [], ◌∷◌, ◌++◌, length, get_or, drop, arith, ne_eqb}
 use Rattle.std.specs.Prelude.{◌==◌}
 use Rattle.expr_tree.specs.Tree.{Tree, trees, nil}
 use Rattle.expr_tree.proofs.Trees.{trees-drop}
 use Rattle.script_text.specs.Spelling.{Spelling}
 use Rattle.script_text.specs.Full.{full, full_items, full_others}
-use Rattle.script_text.specs.Laws.{IsKept, AreKept}
 use Rattle.show_form.specs.Parts.{comma, items_from}
 
 pub items_end : (spelling : Spelling) (i : ℕ) → items_from spelling i nil ≡ []
@@ -28,15 +27,4 @@ items_step spelling i items t h is =
     go true = refl
     go false = refl
 
-pub kept_step : (count i : ℕ) (items : List Tree) (t : Tree) → i < length items → t ≡ get_or items i t → AreKept count (trees (drop i items))
-    → IsKept count t × AreKept count (trees (drop (i + 1) items))
-kept_step count i items t h is kept = subst (λ es. AreKept count es) (trees-drop items i t h is) kept
-
-pub kept_item : (count i : ℕ) (items : List Tree) (t : Tree) → i < length items → t ≡ get_or items i t → AreKept count (trees (drop i items)) → IsKept count t
-kept_item count i items t h is kept = (kept_step count i items t h is kept).0
-
-pub kept_rest : (count i : ℕ) (items : List Tree) (t : Tree) → i < length items → t ≡ get_or items i t → AreKept count (trees (drop i items))
-    → AreKept count (trees (drop (i + 1) items))
-kept_rest count i items t h is kept = (kept_step count i items t h is kept).1
-
-pub ruleset part_steps = (items_end, items_step, kept_item, kept_rest)
+pub ruleset part_steps = (items_end, items_step)

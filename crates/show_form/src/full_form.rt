@@ -1,7 +1,6 @@
-ghost use Rattle.std.specs.Prelude.{◌≡◌, ◌++◌, ◌<◌, length, encode_utf8, IfOk, OnOk};
+ghost use Rattle.std.specs.Prelude.{◌≡◌, ◌++◌, encode_utf8, IfOk, OnOk};
 ghost use Rattle.expr_tree.specs.Tree.{trees};
 ghost use Rattle.script_text.specs.Full.{full, full_items, full_others, quoted, all_escaped};
-ghost use Rattle.script_text.specs.Laws.{IsKept, AreKept};
 ghost use Rattle.script_text.specs.Spelling.{by_texts, symbol_text};
 ghost use Rattle.show_form.specs.Parts.{comma};
 
@@ -12,7 +11,6 @@ use std::alloc::{AllocError, Global};
 
 /// The full form of an expression.
 pub fn full(alloc: Global, e: &Expr, names: &Names) -> Result<Text, AllocError>
-    requires { IsKept (length names.now.texts) e.now }
     ensures { IfOk result (λ text. text ≡ full (by_texts names.now.texts) e.now) }
 {
     let mut buffer = Text::new(alloc);
@@ -24,7 +22,6 @@ pub fn full(alloc: Global, e: &Expr, names: &Names) -> Result<Text, AllocError>
 #[cycle(put)]
 #[tactic(auto, using(expr_tree::proofs::Callers::tree_steps, crate::proofs::Elements::part_steps))]
 fn put_full(buffer: &mut Text, e: &Expr, names: &Names) -> Result<(), AllocError>
-    requires { IsKept (length names.now.texts) e.now }
     ensures { OnOk result (buffer.new ≡ buffer.old ++ full (by_texts names.now.texts) e.now) }
 {
     match e.node() {
@@ -44,7 +41,6 @@ fn put_full(buffer: &mut Text, e: &Expr, names: &Names) -> Result<(), AllocError
 #[cycle(put)]
 #[tactic(auto, using(expr_tree::proofs::Callers::tree_steps, crate::proofs::Elements::part_steps))]
 fn put_items(buffer: &mut Text, items: &[Expr], names: &Names) -> Result<(), AllocError>
-    requires { AreKept (length names.now.texts) (trees items.now) }
     ensures { OnOk result (buffer.new ≡ buffer.old ++ full_items (by_texts names.now.texts) (trees items.now)) }
 {
     for (i, item) in items.iter().enumerate() {
@@ -63,7 +59,6 @@ fn put_comma(buffer: &mut Text, i: usize) -> Result<(), AllocError>
 
 /// Appends the text of a symbol.
 fn put_symbol(buffer: &mut Text, symbol: Sym, names: &Names) -> Result<(), AllocError>
-    requires { symbol.base < length names.now.texts }
     ensures { OnOk result (buffer.new ≡ buffer.old ++ symbol_text (by_texts names.now.texts) symbol) }
 {
     buffer.append(names.base_text(symbol.base))?;

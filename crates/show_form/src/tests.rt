@@ -1,5 +1,5 @@
 use crate::{full, full_names, read_full};
-use expr_tree::{Expr, Text};
+use expr_tree::{Expr, Sym, Text};
 use item_list::Items;
 use name_table::Names;
 use std::alloc::Global;
@@ -15,6 +15,15 @@ fn texts_are_quoted(rt: HostRuntime) -> Result<(), Fail> {
     let text = Expr::text(Text::of(rt.alloc(), "a\"b\n")?);
     let shown = full(rt.alloc(), &text, &names)?;
     assert_eq!(rt; shown.as_str(), "\"a\\\"b\\n\"");
+    Ok(())
+}
+
+#[test]
+fn a_base_that_is_not_kept_shows_as_nothing(rt: HostRuntime) -> Result<(), Fail> {
+    let names = no_names(rt.alloc())?;
+    let symbol = Expr::symbol(Sym { base: 7, number: 2 });
+    let shown = full(rt.alloc(), &symbol, &names)?;
+    assert_eq!(rt; shown.as_str(), "$2");
     Ok(())
 }
 

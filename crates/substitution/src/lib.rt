@@ -1,5 +1,5 @@
 //! Putting in place: expressions with runs of expressions in the place of symbols, so that what an inner Module, With or Function
-//! binds stays. The definition is that of `expr_tree`; the six names come from `name_table`.
+//! binds stays. The definition is that of `expr_tree`; the six names come from `builtin_names`.
 #![tactic(auto)]
 
 ghost use Rattle.expr_tree.specs.Limits.{Assembles};

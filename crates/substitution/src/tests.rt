@@ -1,7 +1,7 @@
 use crate::{Bindings, binders_of, subst, subst_with};
-use expr_tree::{Binders, Expr, Sym, Text, Texts};
+use builtin_names::names_with;
+use expr_tree::{Binders, Expr, Sym};
 use item_list::Items;
-use name_table::Names;
 use std::alloc::Global;
 use std::test::Fail;
 
@@ -43,30 +43,11 @@ fn runs_are_put_in_but_not_into_a_function_of_the_name(rt: HostRuntime) -> Resul
     Ok(())
 }
 
-fn three(alloc: Global, a: &str, b: &str, c: &str) -> Result<Texts, Fail> {
-    let mut texts = Items::new(alloc);
-    texts.push(Text::of(alloc, a)?)?;
-    texts.push(Text::of(alloc, b)?)?;
-    texts.push(Text::of(alloc, c)?)?;
-    Ok(texts)
-}
-
-fn table(alloc: Global) -> Result<Names, Fail> {
-    let forms = three(alloc, "Module", "With", "Function")?;
-    let words = three(alloc, "List", "Set", "Sequence")?;
-    if forms.len() + words.len() > 6 {
-        return Err(Fail::from("too many names"));
-    }
-    Ok(Names::of_texts(alloc, &forms, &words)?)
-}
-
 // an empty run is Sequence[], which has two levels
 #[test]
-fn a_table_of_names_has_the_binders(rt: HostRuntime) -> Result<(), Fail> {
-    let names = table(rt.alloc())?;
-    let Some(binders) = binders_of(&names) else {
-        return Err(Fail::from("no binders"));
-    };
+fn an_empty_run_is_a_sequence(rt: HostRuntime) -> Result<(), Fail> {
+    let names = names_with(rt.alloc(), &Items::new(rt.alloc()))?;
+    let binders = binders_of(&names);
     let mut bindings: Bindings = Items::new(rt.alloc());
     bindings.push((binders.list, Items::new(rt.alloc())))?;
     let made = subst(rt.alloc(), &Expr::symbol(binders.list), &bindings, &names)?;

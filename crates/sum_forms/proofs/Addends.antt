@@ -9,16 +9,18 @@ use Rattle.expr_tree.proofs.Trees.{trees-elements}
 use Rattle.semantics.specs.Names.{Names, is_call, items_of, make}
 use Rattle.semantics.specs.Worked.{Gives, TooWide, all_in_range}
 use Rattle.semantics.specs.Numbers as Numbers
-use Rattle.semantics.specs.Numbers.{Part, once, term, term_in, written, numbers_of, assembled, add_part, gather_sum, sum_of, times}
+use Rattle.semantics.specs.Numbers.{Part, once, term, term_in, written, numbers_of, assembled, gather_sum, sum_of, times}
 use Rattle.semantics.specs.Steps.{ordered}
 use Rattle.semantics.specs.declared.builtin.Builtin.{Builtin}
 use Rattle.int_ops.specs.Totals.{total}
+use Rattle.sum_forms.specs.Gathering.{gathered}
 use Rattle.sum_forms.specs.Taken.{TookTerm}
 use Rattle.sum_forms.specs.Splits.{rest_in, IsScaled}
 use Rattle.sum_forms.specs.Planned.{with_one}
 use Rattle.sum_forms.proofs.Shapes.{not_made}
 use Rattle.sum_forms.proofs.Lists.{size-positive}
 use Rattle.sum_forms.proofs.Rests.{total-more}
+use Rattle.sum_forms.proofs.Judged.{gathered-more}
 use Rattle.sum_forms.proofs.Factors.{not_zero}
 
 -- how an element of a sum is read
@@ -103,13 +105,13 @@ pub ruleset term_steps = (not_made)
 
 -- one element more
 pub took-integer : (names : Names) (n : ℤ) (numbers : List ℤ) (ps : List Part) → TookTerm names (integer n) numbers ps (numbers ++ n ∷ []) ps
-took-integer names n numbers ps = record { rest = λ es. ap (λ z. gather_sum names es (record { whole_part = z; parts = ps })) (sym (total-more numbers n)) }
+took-integer names n numbers ps = record { rest = λ es. ap (λ z. gather_sum names es (record { whole_part = z; parts = gathered ps })) (sym (total-more numbers n)) }
 
-pub took-other : (names : Names) (e : Tree) (numbers : List ℤ) (before after : List Part) → ((n : ℤ) → e ≢ integer n) → after ≡ add_part (term names e) before → TookTerm names e numbers before numbers after
+pub took-other : (names : Names) (e : Tree) (numbers : List ℤ) (before after : List Part) → ((n : ℤ) → e ≢ integer n) → after ≡ before ++ term names e ∷ [] → TookTerm names e numbers before numbers after
 took-other names (integer n) numbers before after other is = absurd (other n refl)
-took-other names (string s) numbers before after other is = record { rest = λ es. ap (λ ps. gather_sum names es (record { whole_part = total numbers; parts = ps })) (sym is) }
-took-other names (symbol s) numbers before after other is = record { rest = λ es. ap (λ ps. gather_sum names es (record { whole_part = total numbers; parts = ps })) (sym is) }
-took-other names (normal h ts) numbers before after other is = record { rest = λ es. ap (λ ps. gather_sum names es (record { whole_part = total numbers; parts = ps })) (sym is) }
+took-other names (string s) numbers before after other is = record { rest = λ es. ap (λ ps. gather_sum names es (record { whole_part = total numbers; parts = ps })) (sym (ap gathered is ∙ gathered-more before (term names (string s)))) }
+took-other names (symbol s) numbers before after other is = record { rest = λ es. ap (λ ps. gather_sum names es (record { whole_part = total numbers; parts = ps })) (sym (ap gathered is ∙ gathered-more before (term names (symbol s)))) }
+took-other names (normal h ts) numbers before after other is = record { rest = λ es. ap (λ ps. gather_sum names es (record { whole_part = total numbers; parts = ps })) (sym (ap gathered is ∙ gathered-more before (term names (normal h ts)))) }
 
 pub ruleset take_steps = (took-integer, took-other)
 

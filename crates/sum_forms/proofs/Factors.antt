@@ -7,11 +7,13 @@ use Rattle.expr_tree.specs.Limits.{in_range}
 use Rattle.semantics.specs.Names.{Names, is_name, is_call, make}
 use Rattle.semantics.specs.Worked.{Gives, TooWide, all_in_range}
 use Rattle.semantics.specs.Numbers as Numbers
-use Rattle.semantics.specs.Numbers.{Part, once, factor, written, numbers_of, assembled, add_part, gather_product}
+use Rattle.semantics.specs.Numbers.{Part, once, factor, written, numbers_of, assembled, gather_product}
 use Rattle.semantics.specs.Steps.{ordered}
 use Rattle.std.proofs.lemmas.Bool.Decides.{Decides-int_eq}
 use Rattle.int_ops.specs.Products.{Kept, Stands}
+use Rattle.sum_forms.specs.Gathering.{gathered}
 use Rattle.sum_forms.specs.Taken.{Took}
+use Rattle.sum_forms.proofs.Judged.{gathered-more}
 use Rattle.semantics.specs.declared.builtin.Builtin.{Builtin}
 use Rattle.sum_forms.specs.Splits.{power_in}
 use Rattle.sum_forms.specs.Planned.{with_one}
@@ -112,8 +114,8 @@ product-given names z ps other fits all = rw (not_zero z other, Numbers.product_
 pub took-integer : (names : Names) (n z : ℤ) (whole : Kept) (ps : List Part) → Stands whole (z *ℤ n) → Took names (integer n) z ps whole ps
 took-integer names n z whole ps stands = record { part = z *ℤ n; stands = stands; rest = λ es. refl }
 
-pub took-other : (names : Names) (e : Tree) (z : ℤ) (whole : Kept) (before after : List Part) → ((n : ℤ) → e ≢ integer n) → Stands whole z → after ≡ add_part (factor names e) before → Took names e z before whole after
+pub took-other : (names : Names) (e : Tree) (z : ℤ) (whole : Kept) (before after : List Part) → ((n : ℤ) → e ≢ integer n) → Stands whole z → after ≡ before ++ factor names e ∷ [] → Took names e z before whole after
 took-other names (integer n) z whole before after other stands is = absurd (other n refl)
-took-other names (string s) z whole before after other stands is = record { part = z; stands = stands; rest = λ es. ap (λ ps. gather_product names es (record { whole_part = z; parts = ps })) (sym is) }
-took-other names (symbol s) z whole before after other stands is = record { part = z; stands = stands; rest = λ es. ap (λ ps. gather_product names es (record { whole_part = z; parts = ps })) (sym is) }
-took-other names (normal h ts) z whole before after other stands is = record { part = z; stands = stands; rest = λ es. ap (λ ps. gather_product names es (record { whole_part = z; parts = ps })) (sym is) }
+took-other names (string s) z whole before after other stands is = record { part = z; stands = stands; rest = λ es. ap (λ ps. gather_product names es (record { whole_part = z; parts = ps })) (sym (ap gathered is ∙ gathered-more before (factor names (string s)))) }
+took-other names (symbol s) z whole before after other stands is = record { part = z; stands = stands; rest = λ es. ap (λ ps. gather_product names es (record { whole_part = z; parts = ps })) (sym (ap gathered is ∙ gathered-more before (factor names (symbol s)))) }
+took-other names (normal h ts) z whole before after other stands is = record { part = z; stands = stands; rest = λ es. ap (λ ps. gather_product names es (record { whole_part = z; parts = ps })) (sym (ap gathered is ∙ gathered-more before (factor names (normal h ts)))) }

@@ -1,5 +1,5 @@
 -- A list in canonical order is told by its elements.
-use Rattle.std.proofs.Common.{◌≡◌, ◌+◌, ℕ, suc, List, [], ◌∷◌, get_or, Bool, true, false, refl, sym, ap, ◌∙◌, subst, arith}
+use Rattle.std.proofs.Common.{◌≡◌, ◌+◌, ℕ, suc, List, [], ◌∷◌, get_or, map, Bool, true, false, refl, sym, ap, ◌∙◌, subst, arith}
 use Rattle.std.specs.Prelude.{cond, max}
 use Rattle.std.specs.List.{sum_by}
 use Rattle.std.specs.List.Sorted.{IsPermutation, IsSortedBy}
@@ -13,7 +13,7 @@ use Rattle.expr_tree.specs.Order.{tree_cmp, comes_before}
 use Rattle.canon_order.specs.Total.{tree_exact, tree_itself, tree_flip, tree_chain}
 use Rattle.semantics.specs.Steps.{put_in, ordered}
 
-abbrev le : Tree → Tree → Bool
+abbrev pub le : Tree → Tree → Bool
 le a b = is_le (tree_cmp a b)
 
 reversed : (o p : Ordering) → o ≡ ordering_reverse p → is_le o ≡ false → is_le p ≡ true
@@ -33,7 +33,7 @@ both Less Greater e f g = absurd (cc)
 both Equal p e f g = refl
 both Greater p e f g = absurd (cc)
 
-exact : (a b : Tree) → le a b ≡ true → le b a ≡ true → a ≡ b
+pub exact : (a b : Tree) → le a b ≡ true → le b a ≡ true → a ≡ b
 exact a b f g = tree_exact a b (both (tree_cmp a b) (tree_cmp b a) (tree_flip a b) f g)
 
 chain-at : (a b d : Tree) (o p : Ordering) → tree_cmp a b ≡ o → tree_cmp b d ≡ p → is_le o ≡ true → is_le p ≡ true → le a d ≡ true
@@ -43,7 +43,7 @@ chain-at a b d Less Greater e f g h = absurd (cc)
 chain-at a b d Equal p e f g h = subst (λ z. le z d ≡ true) (sym (tree_exact a b e)) (rw f h)
 chain-at a b d Greater p e f g h = absurd (cc)
 
-chain : (a b d : Tree) → le a b ≡ true → le b d ≡ true → le a d ≡ true
+pub chain : (a b d : Tree) → le a b ≡ true → le b d ≡ true → le a d ≡ true
 chain a b d g h = chain-at a b d (tree_cmp a b) (tree_cmp b d) refl refl g h
 
 itself : (a : Tree) → le a a ≡ true
@@ -86,7 +86,7 @@ unique (x ∷ xs) (y ∷ ys) (step b r) (step d s) sums =
     let tails : xs ≡ ys = unique xs ys r s (λ f. omega (arith, sums f, ap f heads, sum_first f x xs, sum_first f y ys)) in
     λ i. heads i ∷ tails i
 
-below-chain : (a b : Tree) (xs : List Tree) → le a b ≡ true → Below b xs → Below a xs
+pub below-chain : (a b : Tree) (xs : List Tree) → le a b ≡ true → Below b xs → Below a xs
 below-chain a b [] e none = none
 below-chain a b (x ∷ xs) e (more f d) = more (chain a b x e f) (below-chain a b xs e d)
 
@@ -154,14 +154,23 @@ not_under Greater Greater e f = absurd (cc)
 extend : (x y : Tree) (ys : List Tree) → le x y ≡ true → Rises (y ∷ ys) → Rises (x ∷ y ∷ ys)
 extend x y ys e (step b r) = step (more e (below-chain x y ys e b)) (step b r)
 
-sorted-rest : (x : Tree) (xs : List Tree) → IsSortedBy comes_before (x ∷ xs) → IsSortedBy comes_before xs
-sorted-rest x xs s = λ k d low high. let at = s (suc k) d (omega arith) (omega arith) in let moved : suc k + 1 ≡ suc (k + 1) = omega arith in subst (λ j. comes_before (get_or (x ∷ xs) j d) (get_or (x ∷ xs) (suc k) d) ≡ false) moved at
+sorted-rest : {X : Type 0} (lt : X → X → Bool) (x : X) (xs : List X) → IsSortedBy lt (x ∷ xs) → IsSortedBy lt xs
+sorted-rest lt x xs s = λ k d low high. let at = s (suc k) d (omega arith) (omega arith) in let moved : suc k + 1 ≡ suc (k + 1) = omega arith in subst (λ j. lt (get_or (x ∷ xs) j d) (get_or (x ∷ xs) (suc k) d) ≡ false) moved at
+
+-- sorted by what stands in the elements
+pub rises-by : {X : Type 0} (of : X → Tree) (xs : List X) → IsSortedBy (λ x y. comes_before (of x) (of y)) xs → Rises (map of xs)
+rises-by of [] s = empty
+rises-by of (x ∷ []) s = step none empty
+rises-by of (x ∷ y ∷ ys) s =
+    extend (of x) (of y) (map of ys) (not_under (tree_cmp (of y) (of x)) (tree_cmp (of x) (of y)) (tree_flip (of y) (of x)) (s 0 x (omega arith) (omega arith)))
+    (rises-by of (y ∷ ys) (sorted-rest (λ x y. comes_before (of x) (of y)) x (y ∷ ys) s))
+
+map-same : (ts : List Tree) → map (λ t. t) ts ≡ ts
+map-same [] = refl
+map-same (t ∷ ts) = ap (λ l. t ∷ l) (map-same ts)
 
 pub rises-sorted : (ts : List Tree) → IsSortedBy comes_before ts → Rises ts
-rises-sorted [] s = empty
-rises-sorted (x ∷ []) s = step none empty
-rises-sorted (x ∷ y ∷ ys) s =
-    extend x y ys (not_under (tree_cmp y x) (tree_cmp x y) (tree_flip y x) (s 0 x (omega arith) (omega arith))) (rises-sorted (y ∷ ys) (sorted-rest x (y ∷ ys) s))
+rises-sorted ts s = subst Rises (map-same ts) (rises-by (λ t. t) ts s)
 
 pub sorted-ordered : (ts ys : List Tree) → IsPermutation ts ys → IsSortedBy comes_before ys → ys ≡ ordered ts
 sorted-ordered ts ys same sorted = unique ys (ordered ts) (rises-sorted ys sorted) (ordered-rises ts) (λ f. sum_by-IsPermutation f ts ys same ∙ sym (sum-ordered f ts))

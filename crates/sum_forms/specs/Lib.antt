@@ -1,3 +1,4 @@
 pub mod Splits
 pub mod Planned
+pub mod Gathering
 pub mod Taken

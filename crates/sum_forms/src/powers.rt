@@ -2,16 +2,15 @@
 ghost use Rattle.std.specs.Prelude.{◌≡◌, MatchOption, None, Some, Ok, pos, ◌<ℤ◌};
 ghost use Rattle.expr_tree.specs.Tree.{Tree};
 ghost use Rattle.semantics.specs.Numbers as Numbers;
-ghost use Rattle.builtin_names.specs.Named.{HasBuiltins, names_in};
+ghost use Rattle.builtin_names.specs.Named.{names_in};
 ghost use Rattle.builtin_names.specs.Results.{Makes, Works};
 ghost use Rattle.sum_forms.specs.Splits.{power_in};
 
 use crate::answers::of_number;
-use builtin_names::{Fault, is_name, make};
+use builtin_names::{Fault, Vocabulary, is_name, make};
 use expr_lists::two;
 use expr_tree::{Expr, Exprs, Node, pair_of};
 use int_ops::{is_even, mul};
-use name_table::Names;
 use semantics::Builtin;
 use std::alloc::Global;
 
@@ -24,8 +23,7 @@ pub(crate) struct Raised<'a> {
 
 /// `Power[b, k]`.
 #[tactic(auto, using(crate::proofs::Shapes::power_steps))]
-pub fn power(alloc: Global, names: &Names, items: &Exprs) -> Result<Option<Expr>, Fault>
-    requires names { HasBuiltins names.now }
+pub fn power(alloc: Global, names: &Vocabulary, items: &Exprs) -> Result<Option<Expr>, Fault>
     ensures { Works (Numbers.power (names_in names.now) items.now) result }
 {
     let Some((base, exponent)) = pair_of(items.as_slice()) else {
@@ -71,11 +69,10 @@ fn negative_power(n: i128, k: i128) -> Option<Expr>
 #[tactic(auto, using(crate::proofs::Shapes::power_steps))]
 fn power_of(
     alloc: Global,
-    names: &Names,
+    names: &Vocabulary,
     base: &Expr,
     exponent: i128,
 ) -> Result<Option<Expr>, Fault>
-    requires names { HasBuiltins names.now }
     ensures { Works (Numbers.power_of (names_in names.now) base.now exponent) result }
 {
     if exponent == 0 {
@@ -96,8 +93,7 @@ fn power_of(
 
 /// The base and the exponent of a power with an integer exponent.
 #[tactic(auto, using(crate::proofs::Shapes::power_in_steps))]
-pub(crate) fn power_in<'a>(names: &Names, e: &'a Expr) -> Option<Raised<'a>>
-    requires names { HasBuiltins names.now }
+pub(crate) fn power_in<'a>(names: &Vocabulary, e: &'a Expr) -> Option<Raised<'a>>
     ensures { MatchOption result (power_in (names_in names.now) e.now ≡ None)
         (λ p. power_in (names_in names.now) e.now ≡ Some (record { number = p.exponent; rest = p.base.now })) }
 {

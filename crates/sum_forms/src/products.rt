@@ -1,39 +1,38 @@
 //! `Times`.
-ghost use Rattle.std.specs.Prelude.{◌≡◌, true, ℤ, List, Some, OnOk};
+ghost use Rattle.std.specs.Prelude.{◌≡◌, true, ℤ, List, Some, IfOk, OnOk};
 ghost use Rattle.semantics.specs.Numbers as Numbers;
 ghost use Rattle.semantics.specs.Numbers.{numbers_of, write_factor, written};
 ghost use Rattle.semantics.specs.Worked.{all_in_range};
 ghost use Rattle.expr_tree.specs.Tree.{Tree};
 ghost use Rattle.expr_tree.specs.Limits.{Assembles, in_range};
 ghost use Rattle.int_ops.specs.Products.{Stands};
-ghost use Rattle.builtin_names.specs.Named.{HasBuiltins, names_in};
+ghost use Rattle.builtin_names.specs.Named.{names_in};
 ghost use Rattle.builtin_names.specs.Results.{Works};
 ghost use Rattle.sum_forms.specs.Planned.{Plans, Written, with_one};
 ghost use Rattle.sum_forms.specs.Taken.{Took};
 
 use crate::answers::{given, within};
-use crate::groups::{Group, add_to, are_in_range};
+use crate::groups::{Group, Part, are_in_range, gathered};
 use crate::powers::power_in;
 use crate::terms::Terms;
-use builtin_names::{Fault, make};
+use builtin_names::{Fault, Vocabulary, make};
 use expr_lists::two;
 use expr_tree::{Built, Expr, Exprs, Node};
 use int_ops::Product;
-use name_table::Names;
 use semantics::Builtin;
 use std::alloc::{AllocError, Global};
 
 /// `Times[..]`: powers of equal bases add their exponents.
 #[tactic(auto, using(crate::proofs::Factors::times_steps))]
-pub fn times(alloc: Global, names: &Names, items: &Exprs) -> Result<Option<Expr>, Fault>
-    requires names { HasBuiltins names.now }
+pub fn times(alloc: Global, names: &Vocabulary, items: &Exprs) -> Result<Option<Expr>, Fault>
     ensures { Works (Numbers.product (names_in names.now) items.now) result }
 {
-    let mut groups = Vec::new(alloc);
+    let mut parts = Vec::new(alloc);
     let mut whole = Product::one();
     for item in items.as_slice() {
-        take(alloc, names, &mut whole, &mut groups, item)?;
+        take(alloc, names, &mut whole, &mut parts, item)?;
     }
+    let groups = gathered(alloc, parts)?;
     product_of(alloc, names, whole, groups.as_slice())
 }
 
@@ -41,37 +40,39 @@ pub fn times(alloc: Global, names: &Names, items: &Exprs) -> Result<Option<Expr>
 #[tactic(auto, using(crate::proofs::Factors::take_steps))]
 fn take(
     alloc: Global,
-    names: &Names,
+    names: &Vocabulary,
     whole: &mut Product,
-    groups: &mut Vec<Group>,
+    parts: &mut Vec<Part>,
     item: &Expr,
 ) -> Result<(), AllocError>
-    requires names { HasBuiltins names.now }
-    ensures { (z : ℤ) → Stands whole.old z → OnOk result (Took (names_in names.now) item.now z groups.old.items whole.new groups.new.items) }
+    ensures { (z : ℤ) → Stands whole.old z → OnOk result (Took (names_in names.now) item.now z parts.old.items whole.new parts.new.items) }
 {
     match item.node() {
         Node::Int(factor) => {
             whole.multiply(*factor);
             Ok(())
         }
-        _ => add_factor(alloc, names, groups, item),
+        _ => {
+            parts.push(factor_of(alloc, names, item)?)?;
+            Ok(())
+        }
     }
 }
 
-/// Adds an element of a product to the groups of its factors.
+/// An element of a product as an exponent and a base.
 #[tactic(auto, using(crate::proofs::Factors::factor_steps))]
-fn add_factor(
-    alloc: Global,
-    names: &Names,
-    groups: &mut Vec<Group>,
-    item: &Expr,
-) -> Result<(), AllocError>
-    requires names { HasBuiltins names.now }
-    ensures { OnOk result (groups.new.items ≡ Numbers.add_part (Numbers.factor (names_in names.now) item.now) groups.old.items) }
+fn factor_of(alloc: Global, names: &Vocabulary, item: &Expr) -> Result<Part, AllocError>
+    ensures { IfOk result (λ p. p ≡ Numbers.factor (names_in names.now) item.now) }
 {
     match power_in(names, item) {
-        Some(power) => add_to(alloc, groups, power.exponent, power.base.copy(alloc)?),
-        None => add_to(alloc, groups, 1, item.copy(alloc)?),
+        Some(power) => Ok(Part {
+            number: power.exponent,
+            rest: power.base.copy(alloc)?,
+        }),
+        None => Ok(Part {
+            number: 1,
+            rest: item.copy(alloc)?,
+        }),
     }
 }
 
@@ -79,11 +80,10 @@ fn add_factor(
 #[tactic(auto, using(crate::proofs::Factors::product_steps))]
 fn product_of(
     alloc: Global,
-    names: &Names,
+    names: &Vocabulary,
     whole: Product,
     groups: &[Group],
 ) -> Result<Option<Expr>, Fault>
-    requires names { HasBuiltins names.now }
     ensures { (z : ℤ) → Stands whole z → Works (Numbers.product_of (names_in names.now) (record { whole_part = z; parts = groups.now })) result }
 {
     let Ok(whole) = whole.judged() else {
@@ -103,8 +103,7 @@ fn product_of(
 
 /// The factors that are written.
 #[tactic(auto, using(crate::proofs::Factors::factor_steps))]
-fn factors_of(alloc: Global, names: &Names, groups: &[Group]) -> Result<Terms, Fault>
-    requires names { HasBuiltins names.now }
+fn factors_of(alloc: Global, names: &Vocabulary, groups: &[Group]) -> Result<Terms, Fault>
     requires range { all_in_range (numbers_of groups.now) ≡ true }
     ensures { Written (written (write_factor (names_in names.now)) groups.now) result }
 {
@@ -120,8 +119,12 @@ fn factors_of(alloc: Global, names: &Names, groups: &[Group]) -> Result<Terms, F
 
 /// The factors with that of a group, unless its exponent is 0.
 #[tactic(auto, using(crate::proofs::Factors::factor_steps))]
-fn with_factor(alloc: Global, names: &Names, factors: Terms, group: &Group) -> Result<Terms, Fault>
-    requires names { HasBuiltins names.now }
+fn with_factor(
+    alloc: Global,
+    names: &Vocabulary,
+    factors: Terms,
+    group: &Group,
+) -> Result<Terms, Fault>
     requires range { in_range group.now.number ≡ true }
     ensures { (ts : List Tree) → Plans ts factors → Written (with_one ts (write_factor (names_in names.now) group.now)) result }
 {
@@ -135,8 +138,7 @@ fn with_factor(alloc: Global, names: &Names, factors: Terms, group: &Group) -> R
 }
 
 /// The power of a base. An exponent 1 gives the base.
-fn factor(alloc: Global, names: &Names, exponent: i128, base: &Expr) -> Result<Expr, Built>
-    requires names { HasBuiltins names.now }
+fn factor(alloc: Global, names: &Vocabulary, exponent: i128, base: &Expr) -> Result<Expr, Built>
     ensures { (t : Tree) → write_factor (names_in names.now) (record { number = exponent; rest = base.now }) ≡ Some t → Assembles t result }
 {
     if exponent == 1 {

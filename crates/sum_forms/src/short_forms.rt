@@ -5,21 +5,19 @@ ghost use Rattle.expr_tree.specs.Limits.{Assembles};
 ghost use Rattle.semantics.specs.Names as n;
 ghost use Rattle.semantics.specs.Numbers as Numbers;
 ghost use Rattle.semantics.specs.declared.builtin.Builtin as rows;
-ghost use Rattle.builtin_names.specs.Named.{HasBuiltins, names_in};
+ghost use Rattle.builtin_names.specs.Named.{names_in};
 ghost use Rattle.builtin_names.specs.Results.{Makes, Works};
 
 use crate::answers::{around, given};
-use builtin_names::{Fault, make};
+use builtin_names::{Fault, Vocabulary, make};
 use expr_lists::two;
 use expr_tree::{Built, Expr, Exprs, pair_of};
-use name_table::Names;
 use semantics::Builtin;
 use std::alloc::Global;
 
 /// `Minus[x]` is -1 times x.
 #[tactic(auto, using(crate::proofs::Shapes::short_steps))]
-pub fn minus(alloc: Global, names: &Names, items: &Exprs) -> Result<Option<Expr>, Fault>
-    requires names { HasBuiltins names.now }
+pub fn minus(alloc: Global, names: &Vocabulary, items: &Exprs) -> Result<Option<Expr>, Fault>
     ensures { Works (Numbers.minus (names_in names.now) items.now) result }
 {
     let [x] = items.as_slice() else {
@@ -31,8 +29,7 @@ pub fn minus(alloc: Global, names: &Names, items: &Exprs) -> Result<Option<Expr>
 
 /// `Subtract[a, b]` is a plus -1 times b.
 #[tactic(auto, using(crate::proofs::Shapes::short_steps))]
-pub fn subtract(alloc: Global, names: &Names, items: &Exprs) -> Result<Option<Expr>, Fault>
-    requires names { HasBuiltins names.now }
+pub fn subtract(alloc: Global, names: &Vocabulary, items: &Exprs) -> Result<Option<Expr>, Fault>
     ensures { Works (Numbers.subtract (names_in names.now) items.now) result }
 {
     let Some((a, b)) = pair_of(items.as_slice()) else {
@@ -45,8 +42,7 @@ pub fn subtract(alloc: Global, names: &Names, items: &Exprs) -> Result<Option<Ex
 
 /// `Divide[a, b]` is a times b to the -1.
 #[tactic(auto, using(crate::proofs::Shapes::short_steps))]
-pub fn divide(alloc: Global, names: &Names, items: &Exprs) -> Result<Option<Expr>, Fault>
-    requires names { HasBuiltins names.now }
+pub fn divide(alloc: Global, names: &Vocabulary, items: &Exprs) -> Result<Option<Expr>, Fault>
     ensures { Works (Numbers.divide (names_in names.now) items.now) result }
 {
     let Some((a, b)) = pair_of(items.as_slice()) else {
@@ -61,12 +57,11 @@ pub fn divide(alloc: Global, names: &Names, items: &Exprs) -> Result<Option<Expr
 #[tactic(auto, using(crate::proofs::Shapes::short_steps))]
 fn beside(
     alloc: Global,
-    names: &Names,
+    names: &Vocabulary,
     row: Builtin,
     first: &Expr,
     part: Result<Expr, Built>,
 ) -> Result<Expr, Fault>
-    requires names { HasBuiltins names.now }
     ensures { (t : Tree) → Assembles t part → Makes (n.make (names_in names.now) row (first.now ∷ t ∷ [])) result }
 {
     match part {

@@ -1,27 +1,26 @@
 //! `Plus`.
 ghost use Rattle.std.specs.Prelude.{◌≡◌, ◌≤◌, true, ℤ, List, [], Some, IfOk, OnOk, MatchOption};
 ghost use Rattle.semantics.specs.Numbers as Numbers;
-ghost use Rattle.semantics.specs.Numbers.{add_part, numbers_of, once, sum_of, write_term, written};
+ghost use Rattle.semantics.specs.Numbers.{numbers_of, once, sum_of, write_term, written};
 ghost use Rattle.semantics.specs.Names as n;
 ghost use Rattle.semantics.specs.Worked.{all_in_range};
 ghost use Rattle.semantics.specs.declared.builtin.Builtin.{Builtin};
 ghost use Rattle.expr_tree.specs.Tree.{Tree, size, depth};
 ghost use Rattle.expr_tree.specs.Limits.{Assembles, in_range};
 ghost use Rattle.int_ops.specs.Totals as Totals;
-ghost use Rattle.builtin_names.specs.Named.{HasBuiltins, names_in};
+ghost use Rattle.builtin_names.specs.Named.{names_in};
 ghost use Rattle.builtin_names.specs.Results.{Works};
 ghost use Rattle.sum_forms.specs.Planned.{Plans, Written, with_one};
 ghost use Rattle.sum_forms.specs.Splits.{rest_in, IsScaled};
 ghost use Rattle.sum_forms.specs.Taken.{TookTerm};
 
 use crate::answers::{given, within};
-use crate::groups::{Group, add_to, are_in_range};
+use crate::groups::{Group, Part, are_in_range, gathered};
 use crate::terms::Terms;
-use builtin_names::{Fault, is_call, items_of, items_under, make};
+use builtin_names::{Fault, Vocabulary, is_call, items_of, items_under, make};
 use expr_tree::{Built, Expr, Exprs, Node, copy_items};
 use int_ops::total;
 use item_list::Items;
-use name_table::Names;
 use semantics::Builtin;
 use std::alloc::{AllocError, Global};
 
@@ -34,15 +33,15 @@ struct Scaled<'a> {
 
 /// `Plus[..]`: terms with equal rests add their coefficients.
 #[tactic(auto, using(crate::proofs::Addends::plus_steps))]
-pub fn plus(alloc: Global, names: &Names, items: &Exprs) -> Result<Option<Expr>, Fault>
-    requires names { HasBuiltins names.now }
+pub fn plus(alloc: Global, names: &Vocabulary, items: &Exprs) -> Result<Option<Expr>, Fault>
     ensures { Works (Numbers.plus (names_in names.now) items.now) result }
 {
-    let mut groups = Vec::new(alloc);
+    let mut parts = Vec::new(alloc);
     let mut numbers = Vec::new(alloc);
     for item in items.as_slice() {
-        take(alloc, names, &mut numbers, &mut groups, item)?;
+        take(alloc, names, &mut numbers, &mut parts, item)?;
     }
+    let groups = gathered(alloc, parts)?;
     sum_of(alloc, names, numbers.as_slice(), groups.as_slice())
 }
 
@@ -50,47 +49,45 @@ pub fn plus(alloc: Global, names: &Names, items: &Exprs) -> Result<Option<Expr>,
 #[tactic(auto, using(crate::proofs::Addends::take_steps))]
 fn take(
     alloc: Global,
-    names: &Names,
+    names: &Vocabulary,
     numbers: &mut Vec<i128>,
-    groups: &mut Vec<Group>,
+    parts: &mut Vec<Part>,
     item: &Expr,
 ) -> Result<(), AllocError>
-    requires names { HasBuiltins names.now }
-    ensures { OnOk result (TookTerm (names_in names.now) item.now numbers.old.items groups.old.items numbers.new.items groups.new.items) }
+    ensures { OnOk result (TookTerm (names_in names.now) item.now numbers.old.items parts.old.items numbers.new.items parts.new.items) }
 {
     match item.node() {
         Node::Int(number) => {
             numbers.push(*number)?;
             Ok(())
         }
-        _ => add_term(alloc, names, groups, item),
+        _ => {
+            parts.push(term_of(alloc, names, item)?)?;
+            Ok(())
+        }
     }
 }
 
-/// Adds an element of a sum to the groups of its terms.
+/// An element of a sum as a coefficient and a rest.
 #[tactic(auto, using(crate::proofs::Addends::term_steps))]
-fn add_term(
-    alloc: Global,
-    names: &Names,
-    groups: &mut Vec<Group>,
-    item: &Expr,
-) -> Result<(), AllocError>
-    requires names { HasBuiltins names.now }
-    ensures { OnOk result (groups.new.items ≡ add_part (Numbers.term (names_in names.now) item.now) groups.old.items) }
+fn term_of(alloc: Global, names: &Vocabulary, item: &Expr) -> Result<Part, AllocError>
+    ensures { IfOk result (λ p. p ≡ Numbers.term (names_in names.now) item.now) }
 {
     match scaled_in(names, item) {
-        Some(scaled) => {
-            let rest = rest_of(alloc, names, scaled.others)?;
-            add_to(alloc, groups, scaled.coefficient, rest)
-        }
-        None => add_to(alloc, groups, 1, item.copy(alloc)?),
+        Some(scaled) => Ok(Part {
+            number: scaled.coefficient,
+            rest: rest_of(alloc, names, scaled.others)?,
+        }),
+        None => Ok(Part {
+            number: 1,
+            rest: item.copy(alloc)?,
+        }),
     }
 }
 
 /// The coefficient and the other elements of a product that begins with an integer and has more.
 #[tactic(auto, using(crate::proofs::Addends::scaled_steps))]
-fn scaled_in<'a>(names: &Names, e: &'a Expr) -> Option<Scaled<'a>>
-    requires names { HasBuiltins names.now }
+fn scaled_in<'a>(names: &Vocabulary, e: &'a Expr) -> Option<Scaled<'a>>
     ensures { MatchOption result (Numbers.term (names_in names.now) e.now ≡ once e.now)
         (λ s. IsScaled (names_in names.now) e.now s.coefficient s.others.now) }
 {
@@ -113,8 +110,7 @@ fn scaled_in<'a>(names: &Names, e: &'a Expr) -> Option<Scaled<'a>>
 
 /// The product of the elements behind a coefficient. One element stands alone.
 #[tactic(auto, using(crate::proofs::Addends::rest_steps))]
-fn rest_of(alloc: Global, names: &Names, others: &[Expr]) -> Result<Expr, AllocError>
-    requires names { HasBuiltins names.now }
+fn rest_of(alloc: Global, names: &Vocabulary, others: &[Expr]) -> Result<Expr, AllocError>
     requires small { size (n.make (names_in names.now) Builtin.Times others.now) ≤ 4000000 }
     requires shallow { depth (n.make (names_in names.now) Builtin.Times others.now) ≤ 512 }
     ensures { IfOk result (λ e. e ≡ rest_in (names_in names.now) others.now) }
@@ -137,11 +133,10 @@ fn rest_of(alloc: Global, names: &Names, others: &[Expr]) -> Result<Expr, AllocE
 #[tactic(auto, using(crate::proofs::Addends::sum_steps))]
 fn sum_of(
     alloc: Global,
-    names: &Names,
+    names: &Vocabulary,
     numbers: &[i128],
     groups: &[Group],
 ) -> Result<Option<Expr>, Fault>
-    requires names { HasBuiltins names.now }
     ensures { Works (sum_of (names_in names.now) (record { whole_part = Totals.total numbers.now; parts = groups.now })) result }
 {
     let Ok(whole) = total(numbers) else {
@@ -158,8 +153,7 @@ fn sum_of(
 
 /// The terms that are written.
 #[tactic(auto, using(crate::proofs::Addends::term_steps))]
-fn terms_of(alloc: Global, names: &Names, groups: &[Group]) -> Result<Terms, Fault>
-    requires names { HasBuiltins names.now }
+fn terms_of(alloc: Global, names: &Vocabulary, groups: &[Group]) -> Result<Terms, Fault>
     requires range { all_in_range (numbers_of groups.now) ≡ true }
     ensures { Written (written (write_term (names_in names.now)) groups.now) result }
 {
@@ -175,8 +169,7 @@ fn terms_of(alloc: Global, names: &Names, groups: &[Group]) -> Result<Terms, Fau
 
 /// The terms with that of a group, unless its coefficient is 0.
 #[tactic(auto, using(crate::proofs::Addends::with_steps))]
-fn with_term(alloc: Global, names: &Names, terms: Terms, group: &Group) -> Result<Terms, Fault>
-    requires names { HasBuiltins names.now }
+fn with_term(alloc: Global, names: &Vocabulary, terms: Terms, group: &Group) -> Result<Terms, Fault>
     requires range { in_range group.now.number ≡ true }
     ensures { (ts : List Tree) → Plans ts terms → Written (with_one ts (write_term (names_in names.now) group.now)) result }
 {
@@ -191,8 +184,7 @@ fn with_term(alloc: Global, names: &Names, terms: Terms, group: &Group) -> Resul
 
 /// A coefficient times a rest. A coefficient 1 gives the rest.
 #[tactic(auto, using(crate::proofs::Addends::write_steps))]
-fn term(alloc: Global, names: &Names, coefficient: i128, rest: &Expr) -> Result<Expr, Built>
-    requires names { HasBuiltins names.now }
+fn term(alloc: Global, names: &Vocabulary, coefficient: i128, rest: &Expr) -> Result<Expr, Built>
     ensures { (t : Tree) → write_term (names_in names.now) (record { number = coefficient; rest = rest.now }) ≡ Some t → Assembles t result }
 {
     if coefficient == 1 {
@@ -203,8 +195,12 @@ fn term(alloc: Global, names: &Names, coefficient: i128, rest: &Expr) -> Result<
 
 /// A product with a coefficient before its elements, or before anything else.
 #[tactic(auto, using(crate::proofs::Addends::scaled_by_steps))]
-fn scaled_by(alloc: Global, names: &Names, coefficient: i128, rest: &Expr) -> Result<Expr, Built>
-    requires names { HasBuiltins names.now }
+fn scaled_by(
+    alloc: Global,
+    names: &Vocabulary,
+    coefficient: i128,
+    rest: &Expr,
+) -> Result<Expr, Built>
     ensures { Assembles (Numbers.times (names_in names.now) coefficient rest.now) result }
 {
     let mut items = Items::new(alloc);

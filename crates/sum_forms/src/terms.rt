@@ -6,16 +6,15 @@ ghost use Rattle.semantics.specs.Numbers.{assembled};
 ghost use Rattle.semantics.specs.Names.{Names as NamesIn};
 ghost use Rattle.semantics.specs.Steps.{ordered};
 ghost use Rattle.semantics.specs.declared.builtin.Builtin.{Builtin};
-ghost use Rattle.builtin_names.specs.Named.{HasBuiltins, names_in};
+ghost use Rattle.builtin_names.specs.Named.{names_in};
 ghost use Rattle.builtin_names.specs.Results.{Makes, IsFaultOf};
 ghost use Rattle.sum_forms.specs.Planned.{Plans, Written, atoms_beside};
 ghost use Rattle.std.specs.Ordering.{int_eq};
 
-use builtin_names::{Fault, make};
+use builtin_names::{Fault, Vocabulary, make};
 use canon_order::put_in_order;
 use expr_tree::{Built, Expr, Exprs, MAX_SIZE};
 use item_list::Items;
-use name_table::Names;
 use semantics::Builtin;
 use std::alloc::Global;
 use std::marker::Model;
@@ -101,12 +100,11 @@ impl Terms {
     pub fn finish(
         self,
         alloc: Global,
-        names: &Names,
+        names: &Vocabulary,
         row: Builtin,
         unit: i128,
         whole: i128,
     ) -> Result<Expr, Fault>
-        requires names { HasBuiltins names.now }
         ensures { (ts : List Tree) → Plans ts self → Makes (assembled (names_in names.now) row unit whole (ordered ts)) result }
     {
         if self.is_lost {
@@ -156,13 +154,12 @@ fn grown(nodes: u64, more: u64) -> Option<u64>
 #[tactic(auto, using(crate::proofs::Lists::beside_steps))]
 fn beside_integer(
     alloc: Global,
-    names: &Names,
+    names: &Vocabulary,
     row: Builtin,
     unit: i128,
     whole: i128,
     items: Exprs,
 ) -> Result<Expr, Fault>
-    requires names { HasBuiltins names.now }
     ensures { Makes (assembled (names_in names.now) row unit whole items) result }
 {
     if items.is_empty() {

@@ -2,7 +2,7 @@
 use Rattle.std.proofs.Common.{◌≡◌, refl, true, false, List, [], ◌∷◌, Some}
 use Rattle.semantics.specs.declared.builtin.Builtin.{Builtin}
 use Rattle.semantics.specs.Table.{row, worked}
-use Rattle.journal.specs.Entry.{Event}
+use Rattle.journal.specs.declared.event.Event.{Event}
 use Rattle.journal.specs.Run.{Reading, Out, legal, transcript}
 use Rattle.worked_journals.proofs.Script.{setup, int, of, equals, by, reads, null', then}
 

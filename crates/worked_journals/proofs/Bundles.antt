@@ -4,7 +4,9 @@ use Rattle.expr_tree.specs.Tree.{Tree, symbol, call}
 use Rattle.semantics.specs.declared.builtin.Builtin.{Builtin}
 use Rattle.semantics.specs.Table.{row, worked}
 use Rattle.semantics.specs.Match.{matches}
-use Rattle.journal.specs.Entry.{Entry, Event, Wait}
+use Rattle.journal.specs.declared.event.Wait.{Wait}
+use Rattle.journal.specs.declared.event.Event.{Event}
+use Rattle.journal.specs.declared.event.Entry.{Entry}
 use Rattle.journal.specs.Run.{Reading, Out, legal, transcript}
 use Rattle.worked_journals.proofs.Script.{setup, sym, int, of, equals, by, reads, x', submit, wait_all}
 
@@ -34,6 +36,10 @@ bundled_journal =
 bundled_legal : legal (setup 0) [] bundled bundled_journal ≡ true
 unfolding bundled bundled_journal row worked matches
 bundled_legal = refl
+
+bundled_lines : transcript (setup 0) false bundled bundled_journal 5 ≡ Some (Out 1 (int 3) ∷ Out 3 (int 4) ∷ Out 5 (int 5) ∷ [])
+unfolding bundled bundled_journal row worked matches
+bundled_lines = refl
 
 -- Module[{x}, Hold[x]]; WaitAll[ParallelSubmit[Module[{x}, x]]]; Module[{x}, x]: the kernel takes the number of the bundle, and the master goes on by itself
 numbered : List Reading

@@ -6,7 +6,10 @@ use Rattle.semantics.specs.Definitions.{empty}
 use Rattle.journal.specs.Places.{given}
 use Rattle.journal.specs.Closure.{bundle, symbols_of}
 use Rattle.journal.specs.declared.loss.Loss.{Loss}
-use Rattle.journal.specs.Entry.{Event, Wait, Item, Handed, Posted}
+use Rattle.journal.specs.declared.event.Wait.{Wait}
+use Rattle.journal.specs.declared.event.Event.{Event}
+use Rattle.journal.specs.declared.item.Item.{Item}
+use Rattle.journal.specs.Entry.{Handed, Posted}
 use Rattle.journal.specs.Core.{Setup, Core, start, step, replay, wait_reply}
 use Rattle.journal.specs.Spans.{sections, results}
 use Rattle.worked_journals.proofs.Script.{setup, names, sym, int, by}

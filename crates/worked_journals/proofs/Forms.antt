@@ -6,9 +6,11 @@ use Rattle.semantics.specs.declared.builtin.Builtin.{Builtin}
 use Rattle.semantics.specs.Names.{name}
 use Rattle.semantics.specs.Table.{row, worked}
 use Rattle.semantics.specs.Match.{matches}
-use Rattle.journal.specs.Entry.{Entry, Event, Wait}
+use Rattle.journal.specs.declared.event.Wait.{Wait}
+use Rattle.journal.specs.declared.event.Event.{Event}
+use Rattle.journal.specs.declared.event.Entry.{Entry}
 use Rattle.journal.specs.Run.{Reading, Out, legal, transcript}
-use Rattle.worked_journals.proofs.Script.{setup, names, sym, int, list, of, equals, by, reads, f', x', object, failed', submit, wait_all, method, alone_at}
+use Rattle.worked_journals.proofs.Script.{setup, names, sym, int, list, of, equals, by, reads, f', x', object, failed', submit, wait_all, method, alone_at, everywhere}
 
 -- f[x_] := x x; ParallelMap[f, {1, 2, 3}]
 squares : List Reading
@@ -99,17 +101,45 @@ next_lines :
 unfolding next next_journal row worked
 next_lines = refl
 
--- ParallelCombine[Length, {a, b, c, d, e}, List] with two kernels; ParallelEvaluate[$KernelID] with three
+-- ParallelCombine[Length, {a, b, c, d, e}, List] with two kernels
 combined : List Reading
 combined = reads (of Builtin.ParallelCombine (name names Builtin.Length ∷ list (sym 0 ∷ sym 1 ∷ sym 2 ∷ sym 3 ∷ sym 4 ∷ []) ∷ name names Builtin.List ∷ []) ∷ [])
 
-combined_lines :
-    transcript (setup 2) false combined (
+combined_journal : List Entry
+combined_journal =
     by 0 (Event.Submit 1) ∷ by 0 (Event.Submit 2) ∷ by 0 (Event.Yield (Wait.All (1 ∷ 2 ∷ [])))
-    ∷ by 2 (Event.Take 1) ∷ by 2 (Event.Deliver 1 (int 3)) ∷ by 2 (Event.Take 2) ∷ by 2 (Event.Deliver 2 (int 2)) ∷ by 0 Event.Resume ∷ by 0 Event.Close ∷ []) 1
-    ≡ Some (Out 1 (list (int 3 ∷ int 2 ∷ [])) ∷ [])
-unfolding combined row worked
+    ∷ by 2 (Event.Take 1) ∷ by 2 (Event.Deliver 1 (int 3)) ∷ by 2 (Event.Take 2) ∷ by 2 (Event.Deliver 2 (int 2)) ∷ by 0 Event.Resume ∷ by 0 Event.Close ∷ []
+
+combined_legal : legal (setup 2) [] combined combined_journal ≡ true
+unfolding combined combined_journal row worked
+combined_legal = refl
+
+combined_lines : transcript (setup 2) false combined combined_journal 1 ≡ Some (Out 1 (list (int 3 ∷ int 2 ∷ [])) ∷ [])
+unfolding combined combined_journal row worked
 combined_lines = refl
+
+-- ParallelEvaluate[$KernelID] with no kernels, and with three
+everywhere_alone_legal : legal (setup 0) [] everywhere (by 0 Event.Close ∷ []) ≡ true
+unfolding everywhere row worked
+everywhere_alone_legal = refl
+
+everywhere_alone_lines : transcript (setup 0) false everywhere (by 0 Event.Close ∷ []) 1 ≡ Some (Out 1 (list []) ∷ [])
+unfolding everywhere row worked
+everywhere_alone_lines = refl
+
+everywhere_journal : List Entry
+everywhere_journal =
+    by 0 (Event.Submit 1) ∷ by 0 (Event.Submit 2) ∷ by 0 (Event.Submit 3) ∷ by 0 (Event.Yield (Wait.All (1 ∷ 2 ∷ 3 ∷ [])))
+    ∷ by 2 (Event.Take 2) ∷ by 3 (Event.Take 3) ∷ by 3 (Event.Deliver 3 (int 3)) ∷ by 1 (Event.Take 1) ∷ by 1 (Event.Deliver 1 (int 1)) ∷ by 2 (Event.Deliver 2 (int 2))
+    ∷ by 0 Event.Resume ∷ by 0 Event.Close ∷ []
+
+everywhere_legal : legal (setup 3) [] everywhere everywhere_journal ≡ true
+unfolding everywhere everywhere_journal row worked
+everywhere_legal = refl
+
+everywhere_lines : transcript (setup 3) false everywhere everywhere_journal 1 ≡ Some (Out 1 (list (int 1 ∷ int 2 ∷ int 3 ∷ [])) ∷ [])
+unfolding everywhere everywhere_journal row worked
+everywhere_lines = refl
 
 -- ParallelSum[i j, {i, 2}, {j, 2}]; ParallelTable[i + j, {i, 2}, {j, 2}]; ParallelSum[i, {i, 4}]
 loops : List Reading
@@ -126,13 +156,20 @@ loops =
     j : Tree
     j = sym 14
 
-loops_lines :
-    transcript (setup 0) false loops (
+loops_journal : List Entry
+loops_journal =
     alone_at 1 (list (int 3 ∷ int 6 ∷ []))
     ++ alone_at 2 (list (list (int 2 ∷ int 3 ∷ []) ∷ list (int 3 ∷ int 4 ∷ []) ∷ []))
-    ++ alone_at 3 (list (int 1 ∷ int 2 ∷ int 3 ∷ int 4 ∷ [])) ++ by 0 Event.Close ∷ []) 3
+    ++ alone_at 3 (list (int 1 ∷ int 2 ∷ int 3 ∷ int 4 ∷ [])) ++ by 0 Event.Close ∷ []
+
+loops_legal : legal (setup 0) [] loops loops_journal ≡ true
+unfolding loops loops_journal row worked
+loops_legal = refl
+
+loops_lines :
+    transcript (setup 0) false loops loops_journal 3
     ≡ Some (Out 1 (int 9) ∷ Out 2 (list (list (int 2 ∷ int 3 ∷ []) ∷ list (int 3 ∷ int 4 ∷ []) ∷ [])) ∷ Out 3 (int 10) ∷ [])
-unfolding loops row worked
+unfolding loops loops_journal row worked
 loops_lines = refl
 
 -- ParallelMap[f, h[1, 2], Method -> "FinestGrained"]; ParallelMap[f, 5]; ParallelMap[f, {1}, Method -> "Other"]; ParallelMap[f, {}]
@@ -145,11 +182,18 @@ maps =
     ∷ of Builtin.ParallelMap (f' ∷ list [] ∷ [])
     ∷ [])
 
-maps_lines :
-    transcript (setup 0) false maps (
+maps_journal : List Entry
+maps_journal =
     by 0 (Event.Submit 1) ∷ by 0 (Event.Submit 2) ∷ by 0 (Event.Yield (Wait.All (1 ∷ 2 ∷ [])))
     ∷ by 0 (Event.Take 1) ∷ by 0 (Event.Deliver 1 (list (call f' (int 1 ∷ []) ∷ []))) ∷ by 0 (Event.Take 2) ∷ by 0 (Event.Deliver 2 (list (call f' (int 2 ∷ []) ∷ [])))
-    ∷ by 0 Event.Resume ∷ by 0 Event.Close ∷ []) 4
+    ∷ by 0 Event.Resume ∷ by 0 Event.Close ∷ []
+
+maps_legal : legal (setup 0) [] maps maps_journal ≡ true
+unfolding maps maps_journal row worked
+maps_legal = refl
+
+maps_lines :
+    transcript (setup 0) false maps maps_journal 4
     ≡ Some (Out 1 (call (sym 5) (call f' (int 1 ∷ []) ∷ call f' (int 2 ∷ []) ∷ [])) ∷ Out 2 (int 5) ∷ Out 3 failed' ∷ Out 4 (list []) ∷ [])
-unfolding maps row worked
+unfolding maps maps_journal row worked
 maps_lines = refl

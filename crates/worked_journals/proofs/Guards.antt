@@ -2,12 +2,17 @@
 use Rattle.std.proofs.Common.{◌≡◌, refl, ℕ, true, List, [], ◌∷◌, ◌++◌, None}
 use Rattle.expr_tree.specs.declared.sym.Sym.{Sym}
 use Rattle.expr_tree.specs.Tree.{Tree}
+use Rattle.semantics.specs.declared.builtin.Builtin.{Builtin}
+use Rattle.semantics.specs.Names.{name}
 use Rattle.semantics.specs.Definitions.{empty}
 use Rattle.semantics.specs.Table.{row, worked}
 use Rattle.journal.specs.declared.loss.Loss.{Loss}
 use Rattle.journal.specs.Places.{given, is_some}
 use Rattle.journal.specs.Closure.{bundle, symbols_of}
-use Rattle.journal.specs.Entry.{Event, Wait, Item, Handed, Posted}
+use Rattle.journal.specs.declared.event.Wait.{Wait}
+use Rattle.journal.specs.declared.event.Event.{Event}
+use Rattle.journal.specs.declared.item.Item.{Item}
+use Rattle.journal.specs.Entry.{Handed, Posted}
 use Rattle.journal.specs.Core.{Setup, step, replay}
 use Rattle.worked_journals.proofs.Script.{setup, names, sym, int, by}
 
@@ -97,6 +102,18 @@ yield_no_such_item = (refl, refl)
 yield_next_of_none : Refused (setup 2) one (yields (Wait.Next []))
 yield_next_of_none = (refl, refl)
 
+yield_next_no_such_item : Refused (setup 2) one (yields (Wait.Next (2 ∷ [])))
+yield_next_no_such_item = (refl, refl)
+
+yield_try_no_such_item : Refused (setup 2) one (yields (Wait.Try (2 ∷ [])))
+yield_try_no_such_item = (refl, refl)
+
+-- the second item was dropped when the first was a success
+yield_dropped_item :
+    Refused (setup 2)
+    (submits 1 ∷ submits 2 ∷ yields (Wait.Try (1 ∷ 2 ∷ [])) ∷ plain 1 (Event.Take 1) ∷ plain 1 (Event.Deliver 1 (int 7)) ∷ plain 0 Event.Resume ∷ []) (yields (Wait.All (2 ∷ [])))
+yield_dropped_item = (refl, refl)
+
 yield_no_definitions : Refused (setup 2) one (plain 0 (Event.Yield (Wait.All (1 ∷ []))))
 yield_no_definitions = (refl, refl)
 
@@ -108,6 +125,23 @@ resume_by_kernel = (refl, refl)
 resume_too_early : Refused (setup 2) waiting (plain 0 Event.Resume)
 resume_too_early = (refl, refl)
 
+resume_next_too_early : Refused (setup 2) (one ++ yields (Wait.Next (1 ∷ [])) ∷ []) (plain 0 Event.Resume)
+resume_next_too_early = (refl, refl)
+
+-- one failed, and the other may still be a success
+resume_try_too_early :
+    Refused (setup 2)
+    (submits 1 ∷ submits 2 ∷ yields (Wait.Try (1 ∷ 2 ∷ [])) ∷ plain 1 (Event.Take 1) ∷ plain 1 (Event.Deliver 1 (name names Builtin.Failed)) ∷ []) (plain 0 Event.Resume)
+resume_try_too_early = (refl, refl)
+
+-- kernel 1 has the lock that the wait is for
+resume_locks_too_early :
+    Refused (setup 2)
+    (submits 1 ∷ submits 2 ∷ yields (Wait.Next (1 ∷ 2 ∷ [])) ∷ plain 1 (Event.Take 1) ∷ plain 1 (Event.Enter (a' ∷ [])) ∷ plain 2 (Event.Take 2) ∷ plain 2 (Event.Deliver 2 (int 7))
+    ∷ plain 0 Event.Resume ∷ yields (Wait.Locks (a' ∷ [])) ∷ [])
+    (plain 0 Event.Resume)
+resume_locks_too_early = (refl, refl)
+
 resume_no_wait : Refused (setup 2) one (plain 0 Event.Resume)
 resume_no_wait = (refl, refl)
 
@@ -118,7 +152,8 @@ resume_in_attempt = (refl, refl)
 
 -- ---- Take
 
-take_no_wait : Refused (setup 2) [] (plain 1 (Event.Take 1))
+-- an item waits, and the stand-in is free
+take_no_wait : Refused (setup 0) one (plain 0 (Event.Take 1))
 take_no_wait = (refl, refl)
 
 take_in_attempt : Refused (setup 2) running (plain 1 (Event.Take 2))

@@ -5,9 +5,11 @@ use Rattle.semantics.specs.declared.builtin.Builtin.{Builtin}
 use Rattle.semantics.specs.Names.{name}
 use Rattle.semantics.specs.Table.{row, worked}
 use Rattle.journal.specs.declared.loss.Loss.{Loss}
-use Rattle.journal.specs.Entry.{Entry, Event, Wait}
+use Rattle.journal.specs.declared.event.Wait.{Wait}
+use Rattle.journal.specs.declared.event.Event.{Event}
+use Rattle.journal.specs.declared.event.Entry.{Entry}
 use Rattle.journal.specs.Run.{Reading, Out, legal, started, transcript}
-use Rattle.worked_journals.proofs.Script.{setup, abandoning, names, int, list, of, equals, by, reads, n', f', failed', aborted', increment, share, submit, wait_all, then, alone_at}
+use Rattle.worked_journals.proofs.Script.{setup, abandoning, names, int, list, of, equals, by, reads, n', f', failed', aborted', increment, share, submit, wait_all, then, alone_at, everywhere}
 
 -- n = 0; SetSharedVariable[n]; WaitAll[ParallelSubmit[n++; 7]]; n
 counted : List Reading
@@ -65,10 +67,7 @@ quitting_lines : transcript (setup 2) false quitting quitting_journal 2 ≡ Some
 unfolding quitting quitting_journal row worked
 quitting_lines = refl
 
-everywhere : List Reading
-everywhere = reads (of Builtin.ParallelEvaluate (name names Builtin.KernelID ∷ []) ∷ [])
-
--- kernel 2 is lost before it takes its item
+-- ParallelEvaluate[$KernelID]: kernel 2 is lost before it takes its item
 everywhere_journal : List Entry
 everywhere_journal =
     by 0 (Event.Submit 1) ∷ by 0 (Event.Submit 2) ∷ by 0 (Event.Submit 3) ∷ by 0 (Event.Yield (Wait.All (1 ∷ 2 ∷ 3 ∷ [])))
@@ -159,6 +158,10 @@ quitting_alone = alone_at 1 aborted' ++ by 0 (Event.Ask 0) ∷ by 0 Event.Close 
 quitting_alone_legal : legal (setup 0) [] quitting quitting_alone ≡ true
 unfolding quitting quitting_alone row worked
 quitting_alone_legal = refl
+
+quitting_alone_lines : transcript (setup 0) false quitting quitting_alone 2 ≡ Some (Out 1 aborted' ∷ Out 2 (int 0) ∷ [])
+unfolding quitting quitting_alone row worked
+quitting_alone_lines = refl
 
 -- ---- what a kernel may not post
 

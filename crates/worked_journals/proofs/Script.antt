@@ -7,7 +7,9 @@ use Rattle.semantics.specs.declared.builtin.Builtin.{Builtin}
 use Rattle.semantics.specs.Builtin.{row_number, rows}
 use Rattle.semantics.specs.Names.{Names, make, name}
 use Rattle.expr_tree.specs.declared.limits.Limits.{Limits}
-use Rattle.journal.specs.Entry.{Entry, Event, Wait}
+use Rattle.journal.specs.declared.event.Wait.{Wait}
+use Rattle.journal.specs.declared.event.Event.{Event}
+use Rattle.journal.specs.declared.event.Entry.{Entry}
 use Rattle.journal.specs.declared.recover.Recover.{Recover}
 use Rattle.journal.specs.Core.{Setup}
 use Rattle.journal.specs.Run.{Reading, Reads}
@@ -101,6 +103,10 @@ section e = of Builtin.CriticalSection (list (symbol lock' ∷ []) ∷ e ∷ [])
 -- Method -> t
 abbrev pub method : List ℕ → Tree
 method t = of Builtin.Rule (name names Builtin.Method ∷ string t ∷ [])
+
+-- ParallelEvaluate[$KernelID]
+unfoldable pub everywhere : List Reading
+everywhere = reads (of Builtin.ParallelEvaluate (name names Builtin.KernelID ∷ []) ∷ [])
 
 -- kernel k reads x, and writes it
 abbrev pub read : ℕ → ℕ → Entry

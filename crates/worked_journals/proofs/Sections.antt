@@ -5,7 +5,9 @@ use Rattle.expr_tree.specs.Tree.{Tree, string, symbol}
 use Rattle.semantics.specs.declared.builtin.Builtin.{Builtin}
 use Rattle.semantics.specs.Names.{name}
 use Rattle.semantics.specs.Table.{row, worked}
-use Rattle.journal.specs.Entry.{Entry, Event, Wait}
+use Rattle.journal.specs.declared.event.Wait.{Wait}
+use Rattle.journal.specs.declared.event.Event.{Event}
+use Rattle.journal.specs.declared.event.Entry.{Entry}
 use Rattle.journal.specs.Run.{Reading, Out, legal, transcript}
 use Rattle.worked_journals.proofs.Script.{setup, names, sym, int, list, of, equals, by, reads, x', lock', failed', share, submit, wait_all, section, alone_at, read, write}
 
@@ -113,3 +115,7 @@ quitting_inside_journal =
 quitting_inside_legal : legal (setup 0) [] quitting_inside quitting_inside_journal ≡ true
 unfolding quitting_inside quitting_inside_journal row worked
 quitting_inside_legal = refl
+
+quitting_inside_lines : transcript (setup 0) false quitting_inside quitting_inside_journal 2 ≡ Some (Out 1 failed' ∷ Out 2 (name names Builtin.Aborted) ∷ [])
+unfolding quitting_inside quitting_inside_journal row worked
+quitting_inside_lines = refl

@@ -10,12 +10,16 @@ use Rattle.semantics.specs.Texts.{names_of}
 use Rattle.semantics.specs.Table.{row, worked}
 use Rattle.script_text.specs.Spelling.{Spelling, by_texts, place_in}
 use Rattle.journal.specs.declared.loss.Loss.{Loss}
-use Rattle.journal.specs.Entry.{Text, Entry, Event, Wait}
+use Rattle.journal.specs.declared.event.Wait.{Wait}
+use Rattle.journal.specs.declared.event.Event.{Event}
+use Rattle.journal.specs.declared.event.Entry.{Entry}
+use Rattle.journal.specs.Entry.{Text}
 use Rattle.journal.specs.declared.recover.Recover.{Recover}
 use Rattle.journal.specs.Core.{Setup}
 use Rattle.journal.specs.Lines.{entry_line, journal_text}
 use Rattle.journal.specs.Run.{Reading, legal}
-use Rattle.journal.specs.Transcript.{setup_of, transcript_text}
+use Rattle.journal.specs.Members.{setup_of}
+use Rattle.journal.specs.Transcript.{opening, transcript_text}
 use Rattle.worked_journals.proofs.Script.{by, int, reads}
 
 -- the names that the scripts here need, in order
@@ -73,7 +77,7 @@ unfolding digits lost_once
 lost_once_text = refl
 
 abbrev losing : Setup
-losing = setup_of texts 1 1000000 Recover.Retry
+losing = setup_of (opening texts 1 1000000 Recover.Retry)
 
 lost_once_legal : legal losing ((1, 3) ∷ []) counted lost_once ≡ true
 unfolding counted lost_once row worked
@@ -105,7 +109,7 @@ printing_journal =
     ∷ by 0 Event.Resume ∷ by 0 Event.Close ∷ []
 
 abbrev by_itself : Setup
-by_itself = setup_of texts 0 1000000 Recover.Retry
+by_itself = setup_of (opening texts 0 1000000 Recover.Retry)
 
 printing_legal : legal by_itself [] printing printing_journal ≡ true
 unfolding digits printing printing_journal row worked

@@ -1,15 +1,15 @@
 -- Applications that make generated names.
-use Rattle.std.proofs.Common.{◌≡◌, refl, false, [], ◌∷◌}
+use Rattle.std.proofs.Common.{◌≡◌, refl, true, false, [], ◌∷◌, Option, Some, None}
 use Rattle.expr_tree.specs.Tree.{Tree}
 use Rattle.semantics.specs.declared.builtin.Builtin.{Builtin}
-use Rattle.semantics.specs.Definitions.{Definitions, empty}
+use Rattle.semantics.specs.Definitions.{Definitions, Share, empty}
 use Rattle.semantics.specs.Program.{Mode}
 use Rattle.semantics.specs.Eval.{eval}
 use Rattle.semantics.specs.Table.{row, worked}
 use Rattle.semantics.specs.Match.{matches}
 use Rattle.journal.specs.declared.recover.Recover.{Recover}
 use Rattle.journal.specs.Core.{Setup, in_mode}
-use Rattle.journal.specs.Quiet.{by_itself}
+use Rattle.journal.specs.Quiet.{by_itself, quiet_named_value}
 use Rattle.worked_rows.specs.Sample.{names, in_cell, usual, apply, equals, f', t', x', int, list, made, of, plus, times, value}
 
 abbrev setup : Setup
@@ -37,6 +37,11 @@ square_unused : (by_itself setup squares (at (int 2))).used ≡ false
 unfolding eval row worked matches
 square_unused = refl
 
+-- it is quiet but for generated names
+square_quiet : quiet_named_value setup squares (at (int 2)) ≡ Some (int 9)
+unfolding eval row worked matches
+square_quiet = refl
+
 -- and so it is from the master's definitions after f[1], where the next number is another
 number_after_one : (known_after squares (at (int 1))).module_number ≡ 2
 unfolding eval row worked matches
@@ -57,3 +62,20 @@ name_alone = refl
 name_after_one : (eval (in_mode setup Mode.Cell 0) (known_after gives_names (at (int 1))) (at (int 2)) []).outcome ≡ value (made 19 2)
 unfolding eval row worked matches
 name_after_one = refl
+
+-- it is not quiet but for generated names
+name_not_quiet : ◌≡◌ {A = Option Tree} (quiet_named_value setup gives_names (at (int 2))) None
+unfolding eval row worked matches
+name_not_quiet = refl
+
+-- where t$2 is shared, which a Module may still make, f[2] is as quiet by itself; from a greater number its evaluation is a use of t$2
+abbrev next_shared : Definitions
+next_shared = record squares { shared = record { symbol = record { base = 1019; number = 2 }; kind = Share.Variable; attributes = [] } ∷ [] }
+
+quiet_beside : quiet_named_value setup next_shared (at (int 2)) ≡ Some (int 9)
+unfolding eval row worked matches
+quiet_beside = refl
+
+used_after_one : (eval (in_mode setup Mode.Item 0) (record next_shared { module_number = 2 }) (at (int 2)) []).used ≡ true
+unfolding eval row worked matches
+used_after_one = refl

@@ -1,15 +1,18 @@
 -- Module numbers.
-use Rattle.std.proofs.Common.{◌≡◌, refl, true, [], ◌∷◌}
-use Rattle.expr_tree.specs.Tree.{Tree}
+use Rattle.std.proofs.Common.{◌≡◌, refl, true, false, [], ◌∷◌, ◌++◌, None}
+use Rattle.expr_tree.specs.Tree.{Tree, call}
 use Rattle.expr_tree.specs.declared.limits.Limits.{Limits}
 use Rattle.expr_tree.specs.declared.limits.Stop.{Stop}
 use Rattle.semantics.specs.declared.builtin.Builtin.{Builtin}
-use Rattle.semantics.specs.Definitions.{Definitions, empty}
+use Rattle.semantics.specs.Definitions.{Definitions, empty, put}
 use Rattle.semantics.specs.Program.{Call, Request}
 use Rattle.semantics.specs.Play.{Reply}
 use Rattle.semantics.specs.Eval.{Evaluation, eval}
 use Rattle.semantics.specs.Table.{row, worked}
-use Rattle.worked_rows.specs.Sample.{in_cell, usual, equals, x', y', int, list, of, plus, stopped, symbol_of_row, value}
+use Rattle.journal.specs.Closure.{symbols_of}
+use Rattle.journal.specs.Quiet.{symbols_of_entries}
+use Rattle.laws_closure.specs.Throws.{none_throws}
+use Rattle.worked_rows.specs.Sample.{sym, names, in_cell, usual, equals, x', y', int, list, of, plus, stopped, symbol_of_row, value}
 
 -- Module[{x = Module[{y = 1}, y]}, x + x]: two Modules
 abbrev two : Tree
@@ -21,6 +24,10 @@ ended = eval (in_cell usual) empty two []
 value_of_two : ended.outcome ≡ value (int 2)
 unfolding eval row worked
 value_of_two = refl
+
+-- nothing in it throws
+two_spared : none_throws names (symbols_of two ++ symbols_of_entries empty.entries) ≡ true
+two_spared = refl
 
 -- from 1 to 3, in 6 steps
 numbers_of_two : ended.definitions.module_number ≡ 3
@@ -57,6 +64,9 @@ around e = of Builtin.Module (list (equals x' e ∷ []) ∷ x' ∷ [])
 abbrev given_up : Evaluation
 given_up = eval (in_cell usual) empty (of Builtin.Catch (around (around (around (of Builtin.Throw (int 1 ∷ [])))) ∷ [])) []
 
+throws_stand_there : none_throws names (symbols_of (around (of Builtin.Throw (int 1 ∷ [])))) ≡ false
+throws_stand_there = refl
+
 value_of_the_throw : given_up.outcome ≡ value (int 1)
 unfolding eval row worked
 value_of_the_throw = refl
@@ -68,6 +78,37 @@ numbers_given_up = refl
 steps_given_up : given_up.steps ≡ 2
 unfolding eval row worked
 steps_given_up = refl
+
+-- with Throw as an attribute of x and Catch as one of y, First[Attributes[y]][..] with First[Attributes[x]][1] in eight Modules takes eight numbers
+-- in six steps, and names neither Throw nor Catch
+abbrev attributed : Definitions
+attributed =
+    put names (put names empty (sym 7) (record { attributes = Builtin.Throw ∷ []; own = None; downs = []; ups = [] })) (sym 8)
+    (record { attributes = Builtin.Catch ∷ []; own = None; downs = []; ups = [] })
+
+abbrev first_attribute : Tree → Tree
+first_attribute e = of Builtin.First (of Builtin.Attributes (e ∷ []) ∷ [])
+
+abbrev around_four : Tree → Tree
+around_four e = around (around (around (around e)))
+
+abbrev unnamed : Evaluation
+unnamed = eval (in_cell usual) attributed (call (first_attribute y') (around_four (around_four (call (first_attribute x') (int 1 ∷ []))) ∷ [])) []
+
+value_of_the_unnamed : unnamed.outcome ≡ value (int 1)
+unfolding eval row worked
+value_of_the_unnamed = refl
+
+numbers_of_the_unnamed : unnamed.definitions.module_number ≡ 9
+unfolding eval row worked
+numbers_of_the_unnamed = refl
+
+steps_of_the_unnamed : unnamed.steps ≡ 6
+unfolding eval row worked
+steps_of_the_unnamed = refl
+
+attributes_stand_there : none_throws names (symbols_of (first_attribute x')) ≡ false
+attributes_stand_there = refl
 
 -- Print[] makes a call, and `used` is true: the number after it is that of the definitions after the call, whatever it is
 abbrev called : Evaluation

@@ -1,5 +1,5 @@
 -- Quiet applications on a kernel that knows something else.
-use Rattle.std.proofs.Common.{Some, ◌≡◌, refl, true, false, [], ◌∷◌}
+use Rattle.std.proofs.Common.{Some, ◌≡◌, refl, true, false, List, [], ◌∷◌}
 use Rattle.expr_tree.specs.Tree.{call, Tree}
 use Rattle.semantics.specs.declared.builtin.Builtin.{Builtin}
 use Rattle.semantics.specs.Definitions.{Definitions, Share, Shared, empty, put}
@@ -8,11 +8,12 @@ use Rattle.semantics.specs.Program.{Mode}
 use Rattle.semantics.specs.Eval.{Outcome, eval}
 use Rattle.semantics.specs.Table.{row, worked}
 use Rattle.semantics.specs.Match.{matches}
-use Rattle.journal.specs.Closure.{symbols_of, bundle, install}
+use Rattle.journal.specs.Closure.{symbols_of, symbols_of_all, bundle, install}
 use Rattle.journal.specs.declared.recover.Recover.{Recover}
 use Rattle.journal.specs.Core.{Setup, in_mode}
-use Rattle.journal.specs.Quiet.{by_itself}
-use Rattle.worked_rows.specs.Sample.{names, in_cell, usual, apply, equals, f', g', x', int, of, plus, symbol_of_row, value}
+use Rattle.journal.specs.Quiet.{by_itself, quiet_value}
+use Rattle.laws_quiet.specs.Quiet.{results}
+use Rattle.worked_rows.specs.Sample.{names, in_cell, usual, apply, equals, f', g', x', int, made, of, plus, symbol_of_row, value}
 
 abbrev setup : Setup
 setup = record { names = names; shown = λ e. 63 ∷ []; kernels = 3; limits = usual; recovery = Recover.Retry }
@@ -66,6 +67,25 @@ number_alone = refl
 number_on_kernel : on_kernel (at (symbol_of_row Builtin.KernelID)) ≡ value (int 4)
 unfolding eval row worked matches
 number_on_kernel = refl
+
+-- y$5 has the value 4, though the next Module takes the number 1: f[y$5] is quiet, and a list with it gives on the kernel what it gives by itself
+abbrev to_come : Definitions
+to_come = put names master (record { base = 1008; number = 5 }) (record { attributes = []; own = Some (int 4); downs = []; ups = [] })
+
+abbrev with_later : List Tree
+with_later = at (made 8 5) ∷ at (int 2) ∷ at (made 8 5) ∷ []
+
+next_number : to_come.module_number ≡ 1
+unfolding eval row worked matches
+next_number = refl
+
+later_quiet : quiet_value setup to_come (at (made 8 5)) ≡ Some (int 5)
+unfolding eval row worked matches
+later_quiet = refl
+
+later_on_kernel : results (in_mode setup Mode.Item 3) (install names left (bundle names to_come (symbols_of_all with_later))) with_later ≡ value (int 5) ∷ value (int 3) ∷ value (int 5) ∷ []
+unfolding eval row worked matches
+later_on_kernel = refl
 
 -- with the names Pattern and BlankSequence shared the closure of f[1, 2] lacks Sequence, which f[x__] := g[x] puts in: by itself g[1, 2], with
 -- `used` false, but g[7[1, 2]] on a kernel where Sequence has the value 7

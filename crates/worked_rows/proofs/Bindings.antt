@@ -34,6 +34,15 @@ runs_under_flat_are_wrapped :
 unfolding with_attributes found matches
 runs_under_flat_are_wrapped = refl
 
+-- Pattern[Pattern[3, _], y_] on Pattern[3, 4, 5], where Pattern is Flat: what names no symbol is no single blank
+no_run_is_wrapped_for_a_pattern_in_another_shape :
+    matches names (with_attributes true false)
+    (of Builtin.Pattern (of Builtin.Pattern (int 3 ∷ of Builtin.Blank [] ∷ []) ∷ blank y' ∷ []))
+    (of Builtin.Pattern (items (3 ∷ 4 ∷ 5 ∷ [])))
+    ≡ []
+unfolding with_attributes matches
+no_run_is_wrapped_for_a_pattern_in_another_shape = refl
+
 -- o[x_, y_] on o[a, b], where o is Orderless
 positions_rise_under_orderless :
     matches names (with_attributes false true) (call o' (blank x' ∷ blank y' ∷ [])) (call o' (a' ∷ b' ∷ []))

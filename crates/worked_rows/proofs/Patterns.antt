@@ -1,6 +1,6 @@
 -- Patterns, guards and replacing.
 use Rattle.std.proofs.Common.{◌≡◌, refl, [], ◌∷◌}
-use Rattle.expr_tree.specs.Tree.{call}
+use Rattle.expr_tree.specs.Tree.{Tree, call}
 use Rattle.semantics.specs.declared.builtin.Builtin.{Builtin}
 use Rattle.semantics.specs.Eval.{eval}
 use Rattle.semantics.specs.Table.{row, worked}
@@ -46,6 +46,32 @@ orderless_patterns_choose_by_position :
     ∷ value (list (a' ∷ b' ∷ [])) ∷ []
 unfolding eval row worked matches
 orderless_patterns_choose_by_position = refl
+
+-- Unprotect[HoldPattern]; SetAttributes[HoldPattern, Flat]; MatchQ[HoldPattern[1, 2, 3], HoldPattern[x_, y_]]; HoldPattern[1, 2, 3] /. HoldPattern[x_, y_] -> {x, y}
+the_name_of_a_construct_in_another_shape_is_flat :
+    cells (
+    of Builtin.Unprotect (symbol_of_row Builtin.HoldPattern ∷ [])
+    ∷ of Builtin.SetAttributes (symbol_of_row Builtin.HoldPattern ∷ symbol_of_row Builtin.Flat ∷ [])
+    ∷ of Builtin.MatchQ (of Builtin.HoldPattern (int 1 ∷ int 2 ∷ int 3 ∷ []) ∷ of Builtin.HoldPattern (blank x' ∷ blank y' ∷ []) ∷ [])
+    ∷ replacing (of Builtin.HoldPattern (int 1 ∷ int 2 ∷ int 3 ∷ [])) (rule (of Builtin.HoldPattern (blank x' ∷ blank y' ∷ [])) (list (x' ∷ y' ∷ []))) ∷ [])
+    ≡ null
+    ∷ null
+    ∷ value (symbol_of_row Builtin.True)
+    ∷ value (list (int 1 ∷ of Builtin.HoldPattern (int 2 ∷ int 3 ∷ []) ∷ [])) ∷ []
+unfolding eval row worked matches
+the_name_of_a_construct_in_another_shape_is_flat = refl
+
+-- Unprotect[HoldPattern]; SetAttributes[HoldPattern, Orderless]; MatchQ[HoldPattern[a, b], HoldPattern[b, _]]
+the_name_of_a_construct_in_another_shape_is_orderless :
+    cells (
+    of Builtin.Unprotect (symbol_of_row Builtin.HoldPattern ∷ [])
+    ∷ of Builtin.SetAttributes (symbol_of_row Builtin.HoldPattern ∷ symbol_of_row Builtin.Orderless ∷ [])
+    ∷ of Builtin.MatchQ (of Builtin.HoldPattern (a' ∷ b' ∷ []) ∷ of Builtin.HoldPattern (b' ∷ of Builtin.Blank [] ∷ []) ∷ []) ∷ [])
+    ≡ null
+    ∷ null
+    ∷ value (symbol_of_row Builtin.True) ∷ []
+unfolding eval row worked matches
+the_name_of_a_construct_in_another_shape_is_orderless = refl
 
 -- MatchQ[f[1], _f]; MatchQ[3, _f]; MatchQ[{1, 2}, {__f}]; MatchQ[{}, {___}]
 a_typed_blank_asks_for_a_head :
@@ -160,9 +186,61 @@ unfolding eval row worked matches
 what_was_replaced_is_not_entered = refl
 
 -- f[f] /. f -> g
-the_head_is_replaced_before_the_elements : cells (replacing (apply f' f') (rule f' g') ∷ []) ≡ value (apply g' g') ∷ []
+heads_and_elements_are_replaced : cells (replacing (apply f' f') (rule f' g') ∷ []) ≡ value (apply g' g') ∷ []
 unfolding eval row worked matches
-the_head_is_replaced_before_the_elements = refl
+heads_and_elements_are_replaced = refl
+
+-- x_ /; (AppendTo[n, x]; e): n lists what was met
+listed_if : Tree → Tree
+listed_if e = condition (blank x') (of Builtin.CompoundExpression (of Builtin.AppendTo (n' ∷ x' ∷ []) ∷ e ∷ []))
+
+nested : Tree
+nested = call f' (apply g' a' ∷ b' ∷ [])
+
+-- n = {}; f[g[a], b] /. x_ /; (AppendTo[n, x]; False) -> c; n
+replacing_meets_the_head_before_the_elements :
+    cells (equals n' (list []) ∷ replacing nested (rule (listed_if (symbol_of_row Builtin.False)) c') ∷ n' ∷ [])
+    ≡ value (list [])
+    ∷ value nested
+    ∷ value (list (nested ∷ f' ∷ apply g' a' ∷ g' ∷ a' ∷ b' ∷ [])) ∷ []
+unfolding listed_if nested eval row worked matches
+replacing_meets_the_head_before_the_elements = refl
+
+-- n = {}; f[g[a], b] /. x_ /; (AppendTo[n, x]; x === f) -> h; n
+replacing_goes_on_after_a_head :
+    cells (equals n' (list []) ∷ replacing nested (rule (listed_if (of Builtin.SameQ (x' ∷ f' ∷ []))) h') ∷ n' ∷ [])
+    ≡ value (list [])
+    ∷ value (call h' (apply g' a' ∷ b' ∷ []))
+    ∷ value (list (nested ∷ f' ∷ apply g' a' ∷ g' ∷ a' ∷ b' ∷ [])) ∷ []
+unfolding listed_if nested eval row worked matches
+replacing_goes_on_after_a_head = refl
+
+-- n = {}; FreeQ[f[g[a], b], x_ /; (AppendTo[n, x]; False)]; n
+searching_meets_the_head_before_the_elements :
+    cells (equals n' (list []) ∷ of Builtin.FreeQ (nested ∷ listed_if (symbol_of_row Builtin.False) ∷ []) ∷ n' ∷ [])
+    ≡ value (list [])
+    ∷ value (symbol_of_row Builtin.True)
+    ∷ value (list (nested ∷ f' ∷ apply g' a' ∷ g' ∷ a' ∷ b' ∷ [])) ∷ []
+unfolding listed_if nested eval row worked matches
+searching_meets_the_head_before_the_elements = refl
+
+-- n = {}; FreeQ[f[g[a], b], x_ /; (AppendTo[n, x]; x === g)]; n; n = {}; MemberQ[{a, b, c}, x_ /; (AppendTo[n, x]; x === b)]; n
+searching_ends_at_the_first_match :
+    cells (
+    equals n' (list [])
+    ∷ of Builtin.FreeQ (nested ∷ listed_if (of Builtin.SameQ (x' ∷ g' ∷ [])) ∷ [])
+    ∷ n'
+    ∷ equals n' (list [])
+    ∷ of Builtin.MemberQ (list (a' ∷ b' ∷ c' ∷ []) ∷ listed_if (of Builtin.SameQ (x' ∷ b' ∷ [])) ∷ [])
+    ∷ n' ∷ [])
+    ≡ value (list [])
+    ∷ value (symbol_of_row Builtin.False)
+    ∷ value (list (nested ∷ f' ∷ apply g' a' ∷ g' ∷ []))
+    ∷ value (list [])
+    ∷ value (symbol_of_row Builtin.True)
+    ∷ value (list (a' ∷ b' ∷ [])) ∷ []
+unfolding listed_if nested eval row worked matches
+searching_ends_at_the_first_match = refl
 
 -- {1, 2} /. x_?IntegerQ :> x + 1
 delayed_rules_keep_their_right_side :

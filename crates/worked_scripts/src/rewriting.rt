@@ -87,6 +87,17 @@ static BY_ATTRIBUTES: &[Row] = rows![
         "Out[2]= {1, g[2, 3]}",
         "Out[4]= {a, b}"
     ],
+    "the name of a construct with other numbers of elements is Flat and Orderless as other heads are": [
+        "Unprotect[HoldPattern]; SetAttributes[HoldPattern, Flat];",
+        "MatchQ[HoldPattern[1, 2, 3], HoldPattern[x_, y_]]",
+        "HoldPattern[1, 2, 3] /. HoldPattern[x_, y_] -> {x, y}",
+        "Unprotect[Verbatim]; SetAttributes[Verbatim, Orderless];",
+        "MatchQ[Verbatim[a, b], Verbatim[b, _]]"
+    ] => [
+        "Out[2]= True",
+        "Out[3]= {1, HoldPattern[2, 3]}",
+        "Out[5]= True"
+    ],
     "elements that match under Orderless": ["SetAttributes[o, Orderless]", "Cases[{o[b, a], o[b]}, o[a, _]]"] =>
         ["Out[2]= {o[a, b]}"],
     "a round begins with the value of what the one before it made": ["b := c", "a //. {a :> b, c -> d}"] =>

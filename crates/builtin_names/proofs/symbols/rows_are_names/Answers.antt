@@ -1,5 +1,8 @@
+use Rattle.std.proofs.Common.{subst}
+use Rattle.semantics.specs.Names.{IsNames}
+use Rattle.builtin_names.specs.Named.{names_in}
 use Rattle.builtin_names.proofs.Rows.{are_names}
 use Rattle.builtin_names.proofs.symbols.rows_are_names.Goals as goal
 
 pub returns : goal.returns
-returns c = are_names c.args.names.now c.requires.names c.texts_are_distinct.ensures
+returns c = subst (λ t. IsNames (names_in t)) c.names.ensures.same (are_names c.names.result.now c.names.ensures.rows c.texts_are_distinct.ensures)

@@ -1,28 +1,29 @@
-use Rattle.std.proofs.Common.{rules, arith, ◌≡◌, refl, sym, take, ◌∙◌, Ok, Err}
+use Rattle.std.proofs.Common.{rules, arith, ap, Some, ◌≡◌, refl, sym, take, ◌∙◌, Ok, Err}
 use Rattle.std.specs.Prelude.{unwrap_or}
-use Rattle.expr_tree.specs.Tree.{integer, string, symbol, normal, trees}
+use Rattle.expr_tree.specs.Tree.{call, integer, string, symbol, normal, trees}
 use Rattle.semantics.specs.Program.{Done, Ask, Within}
 use Rattle.builtin_names.specs.Attributes.{attributes_in}
 use Rattle.builtin_names.specs.Named.{names_in}
 use Rattle.builtin_names.proofs.Flags.{has_hold_all_complete}
 use Rattle.frames_scope.specs.Reading.{locals_in}
-use Rattle.evaluation_steps.proofs.Laws.{led_on, passed_here, passed_on, played_done, reached_here}
+use Rattle.evaluation_steps.proofs.Laws.{led_on, passed_here, passed_on, played_done, reached_here, evaluated_out}
 use Rattle.eval_seq.specs.Walks.{valued}
-use Rattle.eval_seq.proofs.Walking.{evaluates_out, evaluates_deep, evaluates_err, pass_err, pass_lost, runs_ask, runs_err_or, runs_lost, runs_led, settles_err, settles_pass_out, settles_value}
+use Rattle.eval_seq.proofs.Walking.{evaluates_deep, evaluates_err, pass_err, pass_lost, runs_ask, runs_err, runs_err_or, runs_lost, runs_led, settles_err}
 use Rattle.eval_seq.proofs.Answered.{pass_answers}
-use Rattle.eval_seq.proofs.Driving.{begins_on, driven_given, driven_goes, driven_ends, driven_out, driven_halts, follows_asked, follows_asked_out, follows_within, follows_within_out, follows_turn, follows_turn_out, follows_done, follows_stays, follows_err, runs_turning, runs_turning_out, runs_put_back}
-use Rattle.eval_seq.proofs.StepLaws.{stepped_err, down_sent, down_value, down_out, down_on, element_none, element_some, ups_out, ups_value, ups_on, ups_done, ups_held, ups_free, finish_value, finish_out, finish_stays, later_listed, later_whole, settled_threads, settled_out, settled_listed, settled_on, call_value, call_out, call_on, stepped_last, stepped_here}
+use Rattle.eval_seq.proofs.Driving.{begins_on, driven_given, driven_goes, driven_ends, driven_out, driven_halts, follows_asked, follows_asked_out, follows_within, follows_within_out, follows_turn, follows_turn_out, follows_done, follows_stays, follows_err, follows_catch, follows_catch_out, follows_section, follows_section_out, follows_call, follows_call_out, follows_throw, follows_quit, runs_turning, runs_turning_out, runs_put_back}
+use Rattle.eval_seq.proofs.StepLaws.{stepped_err, begins_by, down_sent, down_value, down_out, down_on, element_none, element_some, ups_out, ups_value, ups_on, ups_done, ups_held, ups_free, finish_value, finish_out, finish_stays, later_listed, later_whole, settled_threads, settled_out, settled_listed, settled_on, call_value, call_out, call_on, stepped_last, stepped_here}
 use Rattle.eval_seq.proofs.SymbolLaws.{pass_err_or, pass_lost_or}
-use Rattle.eval_seq.proofs.SequenceLaws.{runs_held, runs_asked, led_asking, led_next, item_out, item_lost, items_done, head_out, items_out, values_done, values_err, splice_out, splice_on, changed_is, turn_itself, turn_same, turn_out, turn_err, turn_large, turn_worn, turn_again_out, turn_again, passed_settles, settles_err_or, evaluates_lost, normal_out, normal_on, normal_settled, pass_normal}
-use Rattle.eval_seq.proofs.Readiness.{ready_evaluates, ready_runs, ready_turned, ready_stepped, ready_begins, ready_follows}
+use Rattle.eval_seq.proofs.SequenceLaws.{runs_held, runs_asked, led_asking, led_next, item_out, item_lost, items_done, head_out, items_out, values_done, values_err, splice_out, splice_on, changed_is, judged_value, judged_worn, judged_throw_out, judged_thrown, judged_out, judged_err, turn_itself, turn_same, turn_out, turn_err, turn_large, turn_worn, turn_again_out, turn_again, passed_settles, settles_err_or, evaluates_lost, normal_out, normal_on, normal_settled, pass_normal}
+use Rattle.eval_seq.proofs.Readiness.{faces_left, faces_same, machine_comes, ready_evaluates, ready_runs, ready_turned, ready_stepped, ready_follows}
+use Rattle.eval_seq.proofs.Locked.{held_none, ran_inner, ran_refused, ran_not_entered, ran_stays_inside, ran_left, ran_not_left}
 use Rattle.eval_seq.proofs.evaluate.+evaluate.Goals as goal
 
 -- evaluate
-pub evaluate-returns-then-left-eq0 : goal.evaluate-returns-then-left-eq0
-evaluate-returns-then-left-eq0 g t c = rw c.if-left-eq0.true evaluates_out
+pub evaluate-returns-then-room-eq0 : goal.evaluate-returns-then-room-eq0
+evaluate-returns-then-room-eq0 g t c = rw c.if-room-eq0.true evaluated_out
 
 pub evaluate-returns : goal.evaluate-returns
-evaluate-returns g t c = evaluates_deep c.args.left (omega arith) c.settle.ensures
+evaluate-returns g t c = evaluates_deep c.args.room.left (omega arith) c.settle.ensures
 
 -- value_of
 pub value_of-returns-in_err-value : goal.value_of-returns-in_err-value
@@ -45,15 +46,15 @@ pub settle-returns-in_err-value : goal.settle-returns-in_err-value
 settle-returns-in_err-value g t c = settles_err_or c.args.e.now c.from_residual.result c.from_residual.ensures.1 c.in_err-value.ensures.by
 
 pub settle-returns-in_default : goal.settle-returns-in_default
-settle-returns-in_default g t c = settles_value (rw c.in_default.is at c.in_ok-value.ensures).by
+settle-returns-in_default g t c = (rw c.in_default.is at c.in_ok-value.ensures).by
 
 pub settle-returns-in_err-value-2 : goal.settle-returns-in_err-value-2
 settle-returns-in_err-value-2 g t c =
     let b = rw c.in-Some.is at c.in_ok-value.ensures in
-    settles_err_or c.args.e.now c.from_residual-in_err-value-2.result c.from_residual-in_err-value-2.ensures.1 (passed_settles b.by.1 c.in_err-value-2.ensures)
+    settles_err_or c.args.e.now c.from_residual-in_err-value-2.result c.from_residual-in_err-value-2.ensures.1 (passed_settles b.by.1.0 c.in_err-value-2.ensures)
 
 pub settle-returns : goal.settle-returns
-settle-returns g t c = let b = rw c.in-Some.is at c.in_ok-value.ensures in passed_settles b.by.1 c.in_ok-value-2.ensures
+settle-returns g t c = let b = rw c.in-Some.is at c.in_ok-value.ensures in passed_settles b.by.1.0 c.in_ok-value-2.ensures
 
 -- settle_rest
 pub settle_rest-passes-init : goal.settle_rest-passes-init
@@ -63,42 +64,62 @@ pub settle_rest-returns-in_err-value : goal.settle_rest-returns-in_err-value
 settle_rest-returns-in_err-value g t c = passed_settles c.passes.invariant.passed (settles_err c.from_residual.ensures.1 c.in_err-value.ensures.by)
 
 pub settle_rest-returns-in_default : goal.settle_rest-returns-in_default
-settle_rest-returns-in_default g t c = passed_settles c.passes.invariant.passed (settles_value (rw c.in_default.is at c.in_ok-value.ensures).by)
+settle_rest-returns-in_default g t c = passed_settles c.passes.invariant.passed ((rw c.in_default.is at c.in_ok-value.ensures).by)
 
 pub settle_rest-passes-preserved : goal.settle_rest-passes-preserved
 settle_rest-passes-preserved g t c =
     let b = rw c.in-Some.is at c.in_ok-value.ensures in
-    record { passed = passed_on c.passes.invariant.passed b.by.1; ready = ready_turned b c.passes.invariant.ready }
+    record { passed = passed_on c.passes.invariant.passed b.by.1.0; ready = ready_turned b c.passes.invariant.ready }
 
 -- turn
 pub turn-returns-in_err-value : goal.turn-returns-in_err-value
-turn-returns-in_err-value g t c = turn_err c.args.changes c.args.e.now c.from_residual.ensures.1 (settles_pass_out c.args.changes c.args.e.now c.in_err-value.ensures)
+turn-returns-in_err-value g t c = turn_err c.args.changes c.args.e.now c.from_residual.ensures.1 c.in_err-value.ensures.by
 
 pub turn-returns-in_err-check : goal.turn-returns-in_err-check
-turn-returns-in_err-check g t c = turn_err c.args.changes c.args.e.now c.from_residual-in_err-check.ensures.1 (turn_large c.args.changes c.args.e.now (rw c.in_default.is at c.in_ok-value.ensures) c.in_err-check.ensures)
+turn-returns-in_err-check g t c = turn_err c.args.changes c.args.e.now c.from_residual-in_err-check.ensures.1 (turn_large c.args.changes c.args.e.now (rw c.in_default.is at c.in_ok-value.ensures).by c.in_err-check.ensures)
 
 pub turn-returns-in_default : goal.turn-returns-in_default
-turn-returns-in_default g t c = turn_itself c.args.changes c.args.e.now (rw c.in_default.is at c.in_ok-value.ensures) c.in_ok-check.ensures
+turn-returns-in_default g t c = turn_itself c.args.changes c.args.e.now (rw c.in_default.is at c.in_ok-value.ensures).by c.in_ok-check.ensures
 
 pub turn-returns-in_err-check-2 : goal.turn-returns-in_err-check-2
-turn-returns-in_err-check-2 g t c = turn_err c.args.changes c.args.e.now c.from_residual-in_err-check-2.ensures.1 (turn_large c.args.changes c.args.e.now (rw c.in-Some.is at c.in_ok-value.ensures) c.in_err-check-2.ensures)
+turn-returns-in_err-check-2 g t c = turn_err c.args.changes c.args.e.now c.from_residual-in_err-check-2.ensures.1 (turn_large c.args.changes c.args.e.now (rw c.in-Some.is at c.in_ok-value.ensures).by c.in_err-check-2.ensures)
 
 pub turn-returns-then-equals : goal.turn-returns-then-equals
-turn-returns-then-equals g t c = turn_same c.args.changes c.args.e.now (rw c.in-Some.is at c.in_ok-value.ensures) c.in_ok-check-2.ensures (sym c.equals.ensures ∙ c.if-equals.true)
+turn-returns-then-equals g t c = turn_same c.args.changes c.args.e.now (rw c.in-Some.is at c.in_ok-value.ensures).by c.in_ok-check-2.ensures (sym c.equals.ensures ∙ c.if-equals.true)
 
 pub turn-returns-then-changes-eq0 : goal.turn-returns-then-changes-eq0
 turn-returns-then-changes-eq0 g t c =
     turn_out c.args.changes c.args.e.now
-    (turn_worn c.args.changes c.args.e.now c.if-changes-eq0.true (rw c.in-Some.is at c.in_ok-value.ensures) c.in_ok-check-2.ensures (sym c.equals.ensures ∙ c.if-equals.false))
+    (turn_worn c.args.changes c.args.e.now c.if-changes-eq0.true (rw c.in-Some.is at c.in_ok-value.ensures).by c.in_ok-check-2.ensures (sym c.equals.ensures ∙ c.if-equals.false))
 
 pub turn-returns-in_err-count : goal.turn-returns-in_err-count
 turn-returns-in_err-count g t c =
     turn_err c.args.changes c.args.e.now c.from_residual-in_err-count.ensures.1
-    (rw c.in_err-count.ensures.rest (turn_again_out c.args.changes c.args.e.now (omega arith) (rw c.in-Some.is at c.in_ok-value.ensures) c.in_ok-check-2.ensures (sym c.equals.ensures ∙ c.if-equals.false) c.in_err-count.ensures.steps))
+    (rw c.in_err-count.ensures.rest (turn_again_out c.args.changes c.args.e.now (omega arith) (rw c.in-Some.is at c.in_ok-value.ensures).by c.in_ok-check-2.ensures (sym c.equals.ensures ∙ c.if-equals.false) c.in_err-count.ensures.steps))
 
 pub turn-returns : goal.turn-returns
 turn-returns g t c =
-    rw c.in_ok-count.ensures.rest (turn_again c.args.changes c.args.e.now (omega arith) (rw c.in-Some.is at c.in_ok-value.ensures) c.in_ok-check-2.ensures (sym c.equals.ensures ∙ c.if-equals.false) c.in_ok-count.ensures.steps)
+    rw c.in_ok-count.ensures.rest (turn_again c.args.changes c.args.e.now (omega arith) (rw c.in-Some.is at c.in_ok-value.ensures).by c.in_ok-check-2.ensures (sym c.equals.ensures ∙ c.if-equals.false) c.in_ok-count.ensures.steps)
+
+-- pass_or_throw
+pub pass_or_throw-returns-in-Ok : goal.pass_or_throw-returns-in-Ok
+pass_or_throw-returns-in-Ok g t c = judged_value c.args.changes c.args.e.now c.pass.result c.in-Ok.is c.pass.ensures
+
+pub pass_or_throw-returns-then-changes-eq0 : goal.pass_or_throw-returns-then-changes-eq0
+pass_or_throw-returns-then-changes-eq0 g t c =
+    judged_worn c.args.changes c.args.e.now c.in-Err.exit c.if-changes-eq0.true (sym c.thrown_by.ensures ∙ c.in-Ok-thrown_by.is) (rw c.in-Err.is at c.pass.ensures)
+
+pub pass_or_throw-returns-in_err-count-in-Ok-thrown_by : goal.pass_or_throw-returns-in_err-count-in-Ok-thrown_by
+pass_or_throw-returns-in_err-count-in-Ok-thrown_by g t c =
+    judged_err c.args.changes c.args.e.now c.from_residual.result c.from_residual.ensures.1
+    (rw c.in_err-count-in-Ok-thrown_by.ensures.rest (judged_throw_out c.args.changes c.args.e.now c.in-Err.exit (omega arith) (sym c.thrown_by.ensures ∙ c.in-Ok-thrown_by.is) (rw c.in-Err.is at c.pass.ensures) c.in_err-count-in-Ok-thrown_by.ensures.steps))
+
+pub pass_or_throw-returns-in_ok-count-in-Ok-thrown_by : goal.pass_or_throw-returns-in_ok-count-in-Ok-thrown_by
+pass_or_throw-returns-in_ok-count-in-Ok-thrown_by g t c =
+    rw c.in_ok-count-in-Ok-thrown_by.ensures.rest (judged_thrown c.args.changes c.args.e.now c.in-Err.exit (omega arith) (sym c.thrown_by.ensures ∙ c.in-Ok-thrown_by.is) (rw c.in-Err.is at c.pass.ensures) c.in_ok-count-in-Ok-thrown_by.ensures.steps)
+
+pub pass_or_throw-returns-in-Err-thrown_by : goal.pass_or_throw-returns-in-Err-thrown_by
+pass_or_throw-returns-in-Err-thrown_by g t c = judged_out c.args.changes c.args.e.now c.in-Err.exit (sym c.thrown_by.ensures ∙ c.in-Err-thrown_by.is) (rw c.in-Err.is at c.pass.ensures)
 
 -- pass
 pub pass-returns-in-Int : goal.pass-returns-in-Int
@@ -108,7 +129,7 @@ pub pass-returns-in-Str : goal.pass-returns-in-Str
 pass-returns-in-Str g t c = let e : c.args.e.now ≡ string c.in-Str.field-0 = search rules in rw e (valued played_done)
 
 pub pass-returns-in-Symbol : goal.pass-returns-in-Symbol
-pass-returns-in-Symbol g t c = let e : c.args.e.now ≡ symbol c.in-Symbol.symbol = search rules in rw e (c.own.ensures c.args.left)
+pass-returns-in-Symbol g t c = let e : c.args.e.now ≡ symbol c.in-Symbol.symbol = search rules in rw e (c.own.ensures c.args.room.left)
 
 pub pass-returns-in-Normal : goal.pass-returns-in-Normal
 pass-returns-in-Normal g t c =
@@ -117,17 +138,17 @@ pass-returns-in-Normal g t c =
 
 -- normal
 pub normal-values-requires : goal.normal-values-requires
-normal-values-requires g t c = let ready = c.requires.ready in search (rules, ready)
+normal-values-requires g t c = let ready = c.requires.faces in search (rules, ready)
 
 pub normal-settled-requires : goal.normal-settled-requires
 normal-settled-requires g t c =
-    let ready = ready_runs c.in_ok-values.ensures c.requires.ready in
+    let ready = ready_runs c.in_ok-values.ensures c.requires.faces in
     let whole = c.requires.whole in
     let settled = rw c.as_slice-slice.ensures at (c.is_settled.ensures.settled c.if-is_settled.true) in
     search (rules, ready, whole, settled)
 
 pub normal-changed-requires : goal.normal-changed-requires
-normal-changed-requires g t c = let ready = ready_runs c.in_ok-values.ensures c.requires.ready in search (rules, ready)
+normal-changed-requires g t c = let ready = ready_runs c.in_ok-values.ensures c.requires.faces in search (rules, ready)
 
 pub normal-returns-in_err-values : goal.normal-returns-in_err-values
 normal-returns-in_err-values g t c =
@@ -210,17 +231,17 @@ settled-returns-in_err-each g t c = pass_lost_or c.args.whole.now c.from_residua
 pub settled-returns-in-Ok : goal.settled-returns-in-Ok
 settled-returns-in-Ok g t c =
     settled_listed c.args.head.now (attributes_in c.args.attrs.now) c.args.items.now c.args.whole.now c.in-Some.each c.requires.settled c.requires.whole c.in_ok-check.ensures
-    (settled_threads (names_in c.args.scene.now.names.now) c.args.head.now (attributes_in c.args.attrs.now) c.as_slice.ensures c.in_ok-each.ensures c.in-Some.is) (pass_answers (Ok c.in-Ok.value) c.in-Ok.ensures)
+    (settled_threads (names_in c.args.room.scene.now.names.now) c.args.head.now (attributes_in c.args.attrs.now) c.as_slice.ensures c.in_ok-each.ensures c.in-Some.is) (pass_answers (Ok c.in-Ok.value) c.in-Ok.ensures)
 
 pub settled-returns-in-Err : goal.settled-returns-in-Err
 settled-returns-in-Err g t c =
     settled_listed c.args.head.now (attributes_in c.args.attrs.now) c.args.items.now c.args.whole.now c.in-Some.each c.requires.settled c.requires.whole c.in_ok-check.ensures
-    (settled_threads (names_in c.args.scene.now.names.now) c.args.head.now (attributes_in c.args.attrs.now) c.as_slice.ensures c.in_ok-each.ensures c.in-Some.is) (pass_answers (Err c.in-Err.halt) c.in-Err.ensures)
+    (settled_threads (names_in c.args.room.scene.now.names.now) c.args.head.now (attributes_in c.args.attrs.now) c.as_slice.ensures c.in_ok-each.ensures c.in-Some.is) (rw c.from.ensures (pass_answers (Err c.in-Err.halt) c.in-Err.ensures))
 
 pub settled-returns-in-None : goal.settled-returns-in-None
 settled-returns-in-None g t c =
     settled_on c.args.head.now (attributes_in c.args.attrs.now) c.args.items.now c.args.whole.now c.call_steps.result c.requires.settled c.requires.whole c.in_ok-check.ensures
-    (settled_threads (names_in c.args.scene.now.names.now) c.args.head.now (attributes_in c.args.attrs.now) c.as_slice.ensures c.in_ok-each.ensures c.in-None.is) c.call_steps.ensures
+    (settled_threads (names_in c.args.room.scene.now.names.now) c.args.head.now (attributes_in c.args.attrs.now) c.as_slice.ensures c.in_ok-each.ensures c.in-None.is) c.call_steps.ensures
 
 -- changed
 pub changed-returns-in_err-head : goal.changed-returns-in_err-head
@@ -256,8 +277,8 @@ settle-settle_rest-requires g t c = let ready = ready_turned (rw c.in-Some.is at
 pub settle_rest-turn-requires : goal.settle_rest-turn-requires
 settle_rest-turn-requires g t c = let ready = c.passes.invariant.ready in search (rules, ready)
 
-pub turn-pass-requires : goal.turn-pass-requires
-turn-pass-requires g t c = search rules
+pub turn-pass_or_throw-requires : goal.turn-pass_or_throw-requires
+turn-pass_or_throw-requires g t c = search rules
 
 pub pass-own-requires : goal.pass-own-requires
 pass-own-requires g t c = search rules
@@ -281,7 +302,7 @@ later-returns-in-Ok g t c =
 
 pub later-returns-in-Err : goal.later-returns-in-Err
 later-returns-in-Err g t c =
-    later_listed c.args.first.head (attributes_in c.args.first.attrs) c.args.first.items c.in-Threaded.each (rw c.in-Threaded.is at c.in_ok-each.ensures) (pass_answers (Err c.in-Err.halt) c.in-Err.ensures)
+    later_listed c.args.first.head (attributes_in c.args.first.attrs) c.args.first.items c.in-Threaded.each (rw c.in-Threaded.is at c.in_ok-each.ensures) (rw c.from.ensures (pass_answers (Err c.in-Err.halt) c.in-Err.ensures))
 
 pub later-returns-in_err-value-in-Call : goal.later-returns-in_err-value-in-Call
 later-returns-in_err-value-in-Call g t c =
@@ -320,7 +341,10 @@ pub last_steps-returns-in-Symbol : goal.last_steps-returns-in-Symbol
 last_steps-returns-in-Symbol g t c = let e : c.args.whole.now ≡ symbol c.in-Symbol.field-0 = search rules in rw e stepped_here
 
 pub last_steps-call_steps-requires : goal.last_steps-call_steps-requires
-last_steps-call_steps-requires g t c = search rules
+last_steps-call_steps-requires g t c =
+    let e : c.args.whole.now ≡ call c.in-Normal.head.value c.in-Normal.items = search rules in
+    let whole : c.args.whole.now ≡ call c.deref.result.now c.in-Normal.items = rw c.deref.ensures e in
+    search (rules, whole)
 
 -- call_steps
 pub call_steps-returns-in_err-value : goal.call_steps-returns-in_err-value
@@ -339,7 +363,10 @@ pub call_steps-up_steps-requires : goal.call_steps-up_steps-requires
 call_steps-up_steps-requires g t c = search rules
 
 pub call_steps-down_steps-requires : goal.call_steps-down_steps-requires
-call_steps-down_steps-requires g t c = let ready = ready_stepped (rw c.in_default.is at c.in_ok-value.ensures) c.requires in search (rules, ready)
+call_steps-down_steps-requires g t c =
+    let ready = ready_stepped (rw c.in_default.is at c.in_ok-value.ensures) c.requires.faces in
+    let whole = c.requires.whole in
+    search (rules, ready, whole)
 
 -- up_steps
 pub up_steps-returns-then-attrs : goal.up_steps-returns-then-attrs
@@ -383,55 +410,55 @@ element_rules-returns-in-Some g t c = element_some c.args.item.now c.args.whole.
 
 -- symbol_rules
 pub symbol_rules-returns-in_err-rules : goal.symbol_rules-returns-in_err-rules
-symbol_rules-returns-in_err-rules g t c = stepped_err c.from_residual.ensures.1 (c.in_err-rules.ensures c.args.left).by
+symbol_rules-returns-in_err-rules g t c = stepped_err c.from_residual.ensures.1 (c.in_err-rules.ensures.begins c.args.room.left).by
 
 pub symbol_rules-returns : goal.symbol_rules-returns
-symbol_rules-returns g t c = begins_on (c.in_ok-rules.ensures c.args.left) c.drive.ensures
+symbol_rules-returns g t c = begins_on (c.in_ok-rules.ensures.begins c.args.room.left) c.drive.ensures
 
 pub symbol_rules-drive-requires : goal.symbol_rules-drive-requires
-symbol_rules-drive-requires g t c = let ready = ready_begins (c.in_ok-rules.ensures c.args.left) c.requires in search (rules, ready)
+symbol_rules-drive-requires g t c = let ready = c.in_ok-rules.ensures.faces in search (rules, ready)
 
 -- down_steps
 pub down_steps-returns-then-accesses : goal.down_steps-returns-then-accesses
 down_steps-returns-then-accesses g t c =
-    down_sent c.args.head.now c.args.items.now c.args.whole.now (rw c.if-accesses.true at c.accesses.ensures) (c.send_access.ensures c.args.left)
+    down_sent c.args.head.now c.args.items.now c.args.whole.now (rw c.if-accesses.true at c.accesses.ensures.accesses) (c.send_access.ensures.stepped c.args.room.left)
 
 pub down_steps-returns-in_err-rules : goal.down_steps-returns-in_err-rules
 down_steps-returns-in_err-rules g t c =
-    stepped_err c.from_residual.ensures.1 (down_out c.args.head.now c.args.items.now c.args.whole.now (rw c.if-accesses.false at c.accesses.ensures) (rw c.as_slice.ensures at (c.in_err-rules.ensures c.args.left).by))
+    stepped_err c.from_residual.ensures.1 (down_out c.args.head.now c.args.items.now c.args.whole.now (rw c.if-accesses.false at c.accesses.ensures.accesses) (begins_by c.args.head.now c.args.items.now c.args.whole.now (ap (λ k. k.defs) c.accesses.ensures.kept) (rw c.as_slice.ensures at (c.in_err-rules.ensures c.args.room.left))).by)
 
 pub down_steps-returns-in_err-value : goal.down_steps-returns-in_err-value
 down_steps-returns-in_err-value g t c =
     stepped_err c.from_residual-in_err-value.ensures.1
-    (down_out c.args.head.now c.args.items.now c.args.whole.now (rw c.if-accesses.false at c.accesses.ensures) (begins_on (rw c.as_slice.ensures at (c.in_ok-rules.ensures c.args.left)) c.in_err-value.ensures))
+    (down_out c.args.head.now c.args.items.now c.args.whole.now (rw c.if-accesses.false at c.accesses.ensures.accesses) (begins_on (begins_by c.args.head.now c.args.items.now c.args.whole.now (ap (λ k. k.defs) c.accesses.ensures.kept) (rw c.as_slice.ensures at (c.in_ok-rules.ensures c.args.room.left))) c.in_err-value.ensures))
 
 pub down_steps-returns-in-Some : goal.down_steps-returns-in-Some
 down_steps-returns-in-Some g t c =
-    down_value c.args.head.now c.args.items.now c.args.whole.now (rw c.if-accesses.false at c.accesses.ensures) (rw c.as_slice.ensures at (c.in_ok-rules.ensures c.args.left)) (rw c.in-Some.is at c.in_ok-value.ensures)
+    down_value c.args.head.now c.args.items.now c.args.whole.now (rw c.if-accesses.false at c.accesses.ensures.accesses) (begins_by c.args.head.now c.args.items.now c.args.whole.now (ap (λ k. k.defs) c.accesses.ensures.kept) (rw c.as_slice.ensures at (c.in_ok-rules.ensures c.args.room.left))) (rw c.in-Some.is at c.in_ok-value.ensures)
 
 pub down_steps-returns-in_err-row : goal.down_steps-returns-in_err-row
 down_steps-returns-in_err-row g t c =
     stepped_err c.from_residual-in_err-row.ensures.1
-    (down_on c.args.head.now c.args.items.now c.args.whole.now (rw c.if-accesses.false at c.accesses.ensures) (rw c.as_slice.ensures at (c.in_ok-rules.ensures c.args.left)) (rw c.in_default.is at c.in_ok-value.ensures) (c.in_err-row.ensures c.args.left).by)
+    (down_on c.args.head.now c.args.items.now c.args.whole.now (rw c.if-accesses.false at c.accesses.ensures.accesses) (begins_by c.args.head.now c.args.items.now c.args.whole.now (ap (λ k. k.defs) c.accesses.ensures.kept) (rw c.as_slice.ensures at (c.in_ok-rules.ensures c.args.room.left))) (rw c.in_default.is at c.in_ok-value.ensures) (c.in_err-row.ensures.begins c.args.room.left).by)
 
 pub down_steps-returns : goal.down_steps-returns
 down_steps-returns g t c =
-    down_on c.args.head.now c.args.items.now c.args.whole.now (rw c.if-accesses.false at c.accesses.ensures) (rw c.as_slice.ensures at (c.in_ok-rules.ensures c.args.left)) (rw c.in_default.is at c.in_ok-value.ensures)
-    (begins_on (c.in_ok-row.ensures c.args.left) c.drive-2.ensures)
+    down_on c.args.head.now c.args.items.now c.args.whole.now (rw c.if-accesses.false at c.accesses.ensures.accesses) (begins_by c.args.head.now c.args.items.now c.args.whole.now (ap (λ k. k.defs) c.accesses.ensures.kept) (rw c.as_slice.ensures at (c.in_ok-rules.ensures c.args.room.left))) (rw c.in_default.is at c.in_ok-value.ensures)
+    (begins_on (c.in_ok-row.ensures.begins c.args.room.left) c.drive-2.ensures)
 
 pub down_steps-send_access-requires : goal.down_steps-send_access-requires
-down_steps-send_access-requires g t c = search rules
+down_steps-send_access-requires g t c =
+    record { faces = faces_same (ap (λ k. k.open_section) c.accesses.ensures.kept) c.requires.faces; item = c.accesses.ensures.sent c.if-accesses.true }
 
 pub down_steps-drive-requires : goal.down_steps-drive-requires
-down_steps-drive-requires g t c = let ready = ready_begins (c.in_ok-rules.ensures c.args.left) c.requires in search (rules, ready)
+down_steps-drive-requires g t c = let ready = faces_same (ap (λ k. k.open_section) c.accesses.ensures.kept) c.requires.faces in search (rules, ready)
 
 pub down_steps-head_row_start-requires : goal.down_steps-head_row_start-requires
-down_steps-head_row_start-requires g t c = ready_stepped (rw c.in_default.is at c.in_ok-value.ensures) (ready_begins (c.in_ok-rules.ensures c.args.left) c.requires)
+down_steps-head_row_start-requires g t c =
+    record { faces = ready_stepped (rw c.in_default.is at c.in_ok-value.ensures) (faces_same (ap (λ k. k.open_section) c.accesses.ensures.kept) c.requires.faces); whole = c.requires.whole }
 
 pub down_steps-drive-requires-2 : goal.down_steps-drive-requires-2
-down_steps-drive-requires-2 g t c =
-    let ready = ready_begins (c.in_ok-row.ensures c.args.left) (ready_stepped (rw c.in_default.is at c.in_ok-value.ensures) (ready_begins (c.in_ok-rules.ensures c.args.left) c.requires)) in
-    search (rules, ready)
+down_steps-drive-requires-2 g t c = let ready = c.in_ok-row.ensures.faces in search (rules, ready)
 
 -- drive
 pub drive-returns-in-Given : goal.drive-returns-in-Given
@@ -505,13 +532,90 @@ follow-returns-in-Done g t c = rw c.in-Done.is follows_done
 pub follow-returns-in-Stays : goal.follow-returns-in-Stays
 follow-returns-in-Stays g t c = rw c.in-Stays.is follows_stays
 
+pub follow-returns-in_err-value-in-Catch : goal.follow-returns-in_err-value-in-Catch
+follow-returns-in_err-value-in-Catch g t c =
+    rw c.in-Catch.is (follows_err c.from_residual-in_err-value-in-Catch.ensures.1 (follows_catch_out (sym c.in_err-value-in-Catch.ensures) c.value_of-in-Catch.ensures))
+
+pub follow-returns-in_ok-value-in-Catch : goal.follow-returns-in_ok-value-in-Catch
+follow-returns-in_ok-value-in-Catch g t c = rw c.in-Catch.is (follows_catch (sym c.in_ok-value-in-Catch.ensures) c.value_of-in-Catch.ensures)
+
+pub follow-returns-in_err-value-in-Section : goal.follow-returns-in_err-value-in-Section
+follow-returns-in_err-value-in-Section g t c =
+    rw c.in-Section.is (follows_err c.from_residual-in_err-value-in-Section.ensures.1 (follows_section_out c.in_err-value-in-Section.ensures))
+
+pub follow-returns-in_ok-value-in-Section : goal.follow-returns-in_ok-value-in-Section
+follow-returns-in_ok-value-in-Section g t c = rw c.in-Section.is (follows_section c.in_ok-value-in-Section.ensures)
+
+pub follow-returns-in_err-value-in-Call : goal.follow-returns-in_err-value-in-Call
+follow-returns-in_err-value-in-Call g t c =
+    rw c.in-Call.is (follows_err c.from_residual-in_err-value-in-Call.ensures.1 (follows_call_out c.in_err-value-in-Call.ensures.called))
+
+pub follow-returns-in_ok-value-in-Call : goal.follow-returns-in_ok-value-in-Call
+follow-returns-in_ok-value-in-Call g t c = rw c.in-Call.is (follows_call c.in_ok-value-in-Call.ensures.called)
+
+pub follow-returns-in-Throw : goal.follow-returns-in-Throw
+follow-returns-in-Throw g t c = rw c.in-Throw.is follows_throw
+
+pub follow-returns-in-Quit : goal.follow-returns-in-Quit
+follow-returns-in-Quit g t c = rw c.in-Quit.is follows_quit
+
+pub follow-outward-requires-clause-comes : goal.follow-outward-requires-clause-comes
+follow-outward-requires-clause-comes g t c = machine_comes (g.U.Upcall.mode c.args.up.now) (g.U.Upcall.is_open c.args.up.now) c.in-Call.request
+
+-- value_locked
+pub value_locked-returns-in_default : goal.value_locked-returns-in_default
+value_locked-returns-in_default g t c = c.value_inside.ensures
+
+pub value_locked-returns-then-held : goal.value_locked-returns-then-held
+value_locked-returns-then-held g t c = ran_inner c.value_of.result (sym c.is_held.ensures ∙ (c.in-Some.is ∙ ap Some c.if-held.true)) c.value_of.ensures
+
+pub value_locked-returns : goal.value_locked-returns
+value_locked-returns g t c = ran_refused (sym c.is_held.ensures ∙ (c.in-Some.is ∙ ap Some c.if-held.false)) c.name.ensures
+
+pub value_locked-value_inside-requires : goal.value_locked-value_inside-requires
+value_locked-value_inside-requires g t c =
+    let faces = c.requires in
+    let none' = held_none c.args.state.now.open_section c.args.locks (sym c.is_held.ensures ∙ c.in_default.is) in
+    search (rules, faces, none')
+
+-- value_inside
+pub value_inside-returns-in_err-sent : goal.value_inside-returns-in_err-sent
+value_inside-returns-in_err-sent g t c = runs_lost c.from_residual.ensures.1
+
+pub value_inside-returns-in_err-outward : goal.value_inside-returns-in_err-outward
+value_inside-returns-in_err-outward g t c =
+    runs_err c.from_residual-in_err-outward.ensures.1 (ran_not_entered c.requires.none (rw (c.in_ok-sent.ensures, c.as_slice.ensures) at c.in_err-outward.ensures.called))
+
+pub value_inside-returns-then-not-is_left : goal.value_inside-returns-then-not-is_left
+value_inside-returns-then-not-is_left g t c =
+    ran_stays_inside c.value_of-value.result (sym c.if-not-is_left.ensures) c.requires.none (rw (c.in_ok-sent.ensures, c.as_slice.ensures) at c.in_ok-outward.ensures.called) c.value_of-value.ensures
+
+pub value_inside-returns-in_err-outward-2 : goal.value_inside-returns-in_err-outward-2
+value_inside-returns-in_err-outward-2 g t c =
+    runs_err c.from_residual-in_err-outward-2.ensures.1
+    (ran_not_left c.value_of-value.result (sym c.if-not-is_left.ensures) c.requires.none (rw (c.in_ok-sent.ensures, c.as_slice.ensures) at c.in_ok-outward.ensures.called) c.value_of-value.ensures c.in_err-outward-2.ensures.called)
+
+pub value_inside-returns : goal.value_inside-returns
+value_inside-returns g t c =
+    ran_left c.value_of-value.result (sym c.if-not-is_left.ensures) c.requires.none (rw (c.in_ok-sent.ensures, c.as_slice.ensures) at c.in_ok-outward.ensures.called) c.value_of-value.ensures c.in_ok-outward-2.ensures.called
+
+pub value_inside-outward-requires-2-clause-ready : goal.value_inside-outward-requires-2-clause-ready
+value_inside-outward-requires-2-clause-ready g t c =
+    (faces_left c.value_of-value.result (sym c.if-not-is_left.ensures) c.value_of-value.ensures
+    (record { may = c.in_ok-outward.ensures.ready; same_mode = c.in_ok-outward.ensures.mode ∙ c.requires.faces.same_mode; same_open = c.in_ok-outward.ensures.is_open })).may
+
+pub value_inside-outward-requires-2-clause-comes : goal.value_inside-outward-requires-2-clause-comes
+value_inside-outward-requires-2-clause-comes g t c =
+    (faces_left c.value_of-value.result (sym c.if-not-is_left.ensures) c.value_of-value.ensures
+    (record { may = c.in_ok-outward.ensures.ready; same_mode = c.in_ok-outward.ensures.mode ∙ c.requires.faces.same_mode; same_open = c.in_ok-outward.ensures.is_open })).same_open
+
 -- value_within
 pub value_within-returns-in_err-saved : goal.value_within-returns-in_err-saved
 value_within-returns-in_err-saved g t c = runs_lost c.from_residual.ensures.1
 
 pub value_within-returns : goal.value_within-returns
 value_within-returns g t c =
-    runs_put_back c.in_ok-saved.ensures.definitions (c.put_back.ensures c.args.defs.now (locals_in c.args.locals.now) c.in_ok-saved.ensures.saved) c.value_of-value.ensures
+    runs_put_back c.in_ok-saved.ensures.definitions (c.put_back.ensures c.args.state.now.defs (locals_in c.args.locals.now) c.in_ok-saved.ensures.saved) c.value_of-value.ensures
 
 pub value_within-value_of-value-requires : goal.value_within-value_of-value-requires
 value_within-value_of-value-requires g t c = search rules

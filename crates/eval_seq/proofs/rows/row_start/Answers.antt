@@ -1,7 +1,7 @@
 use Rattle.std.proofs.Common.{sym, ◌∙◌}
 use Rattle.semantics.specs.Table.{worked}
 use Rattle.builtin_names.specs.Named.{names_in}
-use Rattle.eval_seq.proofs.RowStarts.{row_plain, row_made, row_unbuilt}
+use Rattle.eval_seq.proofs.RowStarts.{row_plain, row_made}
 use Rattle.eval_seq.proofs.rows.row_start.Goals as goal
 
 pub returns-then-is_plain : goal.returns-then-is_plain
@@ -11,7 +11,3 @@ pub returns-in-Some : goal.returns-in-Some
 returns-in-Some c =
     row_made c.args.row c.args.items.now (sym (rw c.in-Some.is at c.rewrite.ensures.known))
     (c.made.ensures (worked (names_in c.args.scene.now.names.now) c.args.row c.args.items.now) (rw c.in-Some.is at c.rewrite.ensures.value))
-
-pub returns-in_default-start : goal.returns-in_default-start
-returns-in_default-start c =
-    row_unbuilt c.args.row c.args.items.now (sym c.is_plain.ensures ∙ c.if-is_plain.false) (sym (rw c.in_default.is at c.rewrite.ensures.known)) (sym (rw c.in_default-start.is at c.start.ensures.known))

@@ -1,6 +1,6 @@
 use Rattle.std.proofs.Common.{◌≡◌, drop}
 use Rattle.semantics.specs.Scoping.{paired}
-use Rattle.function_calls.proofs.Arguments.{behind}
+use Rattle.expr_lists.proofs.SymbolLists.{behind}
 use Rattle.function_calls.proofs.parameters.paired.Given as goal
 
 abbrev pub invariant-loop-i : goal.invariant-loop-i

@@ -14,7 +14,7 @@ returns-then-is_refused c =
 
 pub returns-in-Done : goal.returns-in-Done
 returns-in-Done c =
-    let h = rw c.in-Done.is at c.in_ok-assign.ensures in
+    let h = rw c.in-Done.is at c.in_ok-assign.ensures.ok in
     attaches (setting_of c.args.scene.now) (form_of c.args.form) c.args.left.now c.args.right.now c.attaches_shared-shared.result
     (shared_is (names_in c.args.scene.now.names.now) (form_of c.args.form) c.args.left.now c.args.defs.now _ _ c.attaches_shared-shared.result c.in_ok-targets.ensures c.in_ok-asked.ensures c.attaches_shared-shared.ensures)
     (sym c.is_refused.ensures.refused ∙ c.if-is_refused.false)
@@ -24,7 +24,7 @@ returns-in-Done c =
 
 pub returns : goal.returns
 returns c =
-    let h = rw c.in-Refused.is at c.in_ok-assign.ensures in
+    let h = rw c.in-Refused.is at c.in_ok-assign.ensures.ok in
     refuses (setting_of c.args.scene.now) (form_of c.args.form) c.args.left.now c.args.right.now (why_of c.in-Refused.field-0) c.attaches_shared-shared.result
     (shared_is (names_in c.args.scene.now.names.now) (form_of c.args.form) c.args.left.now c.args.defs.now _ _ c.attaches_shared-shared.result c.in_ok-targets.ensures c.in_ok-asked.ensures c.attaches_shared-shared.ensures)
     (sym c.is_refused.ensures.refused ∙ c.if-is_refused.false)

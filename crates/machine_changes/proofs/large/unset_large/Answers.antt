@@ -9,5 +9,5 @@ returns c =
     λ l r stay rest.
     rw c.name.ensures
     (gives
-    (unset_large (setting_of c.args.scene.now) c.args.scene.now.names.now c.args.scene.now.builtins c.args.list.now l _ c.any_shared-shared.result refl r c.in_ok-symbols.ensures
+    (unset_large (setting_of c.args.scene.now) c.args.scene.now.names.now c.rows_are_names.ensures c.args.list.now l _ c.any_shared-shared.result refl r c.in_ok-symbols.ensures
     c.any_shared-shared.ensures c.note_use.ensures (c.hold_none.ensures l r.large)))

@@ -32,4 +32,4 @@ returns c =
     (onward
     (unset_passes (setting_of c.args.scene.now) c.args.left.now _ _ c.any_shared-shared.result c.in_ok-symbols.ensures c.any_shared-shared.ensures
     (sym c.is_refused.ensures.refused ∙ c.if-is_refused.false) c.is_refused.ensures.used c.in_ok-held.ensures)
-    (takes_away (setting_of c.args.scene.now) c.args.left.now _ _ c.in_ok-symbols.ensures c.in_ok-held.ensures (sym c.is_kept.ensures ∙ c.if-is_kept.false) c.take_away.ensures)))
+    (takes_away (setting_of c.args.scene.now) c.args.left.now _ _ c.in_ok-symbols.ensures c.in_ok-held.ensures (sym c.is_kept.ensures ∙ c.if-is_kept.false) c.in_ok-take_away.ensures)))

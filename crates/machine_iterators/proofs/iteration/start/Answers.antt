@@ -3,7 +3,7 @@ use Rattle.semantics.specs.declared.builtin.Builtin.{Builtin}
 use Rattle.semantics.specs.Table.{row}
 use Rattle.builtin_names.specs.Named.{names_in}
 use Rattle.machine_steps.specs.Steps.{Starts}
-use Rattle.machine_iterators.specs.Left.{left}
+use Rattle.machine_iterators.specs.IterationLeft.{left}
 use Rattle.machine_iterators.proofs.iteration.start.Goals as goal
 
 pub returns-in-Do-clause-starts : goal.returns-in-Do-clause-starts

@@ -1,7 +1,7 @@
 use Rattle.std.proofs.Common.{◌≡◌, ◌∙◌, ◌<◌, ◌≤◌, ◌+◌, ◌||◌, length, get_or, drop, sym, ap, arith}
 use Rattle.semantics.specs.Scoping.{symbols_of}
 use Rattle.frames_scope.specs.Reading.{locals_in}
-use Rattle.machine_rows.specs.Results.{any_shared}
+use Rattle.machine_rows.specs.StepResults.{any_shared}
 use Rattle.machine_rows.proofs.Scopes.{shared_more, shared_end}
 use Rattle.machine_rows.proofs.block_row.any_shared.Goals as goal
 

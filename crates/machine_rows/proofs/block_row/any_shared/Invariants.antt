@@ -1,7 +1,7 @@
 use Rattle.std.proofs.Common.{◌≡◌, drop}
 use Rattle.semantics.specs.Scoping.{symbols_of}
 use Rattle.frames_scope.specs.Reading.{locals_in}
-use Rattle.machine_rows.specs.Results.{any_shared}
+use Rattle.machine_rows.specs.StepResults.{any_shared}
 use Rattle.machine_rows.proofs.block_row.any_shared.Given as goal
 
 abbrev pub invariant-loop-local : goal.invariant-loop-local

@@ -18,7 +18,7 @@ returns-in-Ok-Guard-clause-falls c =
 pub returns-in-Ok-Found-clause-stepped : goal.returns-in-Ok-Found-clause-stepped
 returns-in-Ok-Found-clause-stepped c =
     λ stay used.
-    rw c.done.ensures
+    rw c.result_move.ensures
     (step_yields {a = left (names_in c.args.scene.now.names.now) c.args.attempt.now c.args.answer} {rest = left (names_in c.args.scene.now.names.now) c.step.new.self} c.placed.result
     (rw c.in-Ok-Found.field-0-is at (c.in-Ok-Found.ensures.moved c.args.defs.now (record { by = λ s. refl }))) c.placed.ensures)
 

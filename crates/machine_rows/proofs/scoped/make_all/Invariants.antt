@@ -1,7 +1,7 @@
 use Rattle.std.proofs.Common.{◌≡◌, drop}
 use Rattle.builtin_names.specs.Named.{names_in}
 use Rattle.frames_scope.specs.Reading.{locals_in}
-use Rattle.machine_rows.specs.Results.{made_all}
+use Rattle.machine_rows.specs.StepResults.{made_all}
 use Rattle.machine_rows.proofs.scoped.make_all.Given as goal
 
 abbrev pub invariant-loop-local : goal.invariant-loop-local

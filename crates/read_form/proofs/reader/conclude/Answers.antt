@@ -1,7 +1,7 @@
-use Rattle.std.proofs.Common.{sym, ap, ◌∙◌}
+use Rattle.std.proofs.Common.{sym, ap, subst, ◌∙◌}
 use Rattle.std.specs.Option.{option_map}
 use Rattle.script_text.specs.Spelling.{place_in}
-use Rattle.builtin_names.specs.Named.{names_in}
+use Rattle.builtin_names.specs.Named.{HasBuiltins, names_in}
 use Rattle.phrase_form.specs.Held.{kept_in}
 use Rattle.phrase_form.specs.Machine.{state_in}
 use Rattle.read_form.proofs.KeptReadings.{reading_kept}
@@ -17,7 +17,7 @@ returns-in-Some-2-clause-read c =
     is_reading n f c.args.cell.now (kept_in c.in-Some.kept).expr c.in-Some-2.e read (sym c.in_ok-e-in-Some.ensures ∙ c.in-Some-2.is)
 
 pub returns-in-Some-2-clause-kept : goal.returns-in-Some-2-clause-kept
-returns-in-Some-2-clause-kept c = reading_kept c.args.names.now c.args.cell.now c.in-Some-2.e c.requires.names c.requires.kept (returns-in-Some-2-clause-read c)
+returns-in-Some-2-clause-kept c = reading_kept c.args.names.now c.args.cell.now c.in-Some-2.e (subst HasBuiltins c.names-rows.ensures.same c.names-rows.ensures.rows) c.requires.kept (returns-in-Some-2-clause-read c)
 
 pub returns-in-Some-2-clause-shallow : goal.returns-in-Some-2-clause-shallow
 returns-in-Some-2-clause-shallow c =

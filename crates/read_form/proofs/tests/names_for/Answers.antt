@@ -5,6 +5,5 @@ use Rattle.syntax.specs.Tokens as syn
 use Rattle.read_form.proofs.KeptNames.{cell_is_kept}
 use Rattle.read_form.proofs.tests.names_for.Goals as goal
 
-pub returns-clause-kept : goal.returns-clause-kept
-returns-clause-kept c =
-    cell_is_kept (map row_text rows) _ _ _ c.args.cell.now _ c.in_ok-names_with.ensures.texts c.in_ok-names_of.ensures c.new-texts.ensures (ap (λ (l : syn.Lexed). l.tokens) c.requires)
+pub returns : goal.returns
+returns c = record { kept = cell_is_kept (map row_text rows) _ _ _ c.args.cell.now _ c.in_ok-names_with.ensures.texts c.in_ok-names_of.ensures c.new-texts.ensures (ap (λ (l : syn.Lexed). l.tokens) c.requires) }

@@ -1,6 +1,6 @@
 use Rattle.std.proofs.Common.{rules, ◌≡◌, refl}
 use Rattle.expr_tree.specs.Tree.{symbol}
-use Rattle.journal.specs.Core.{Status}
+use Rattle.journal.specs.declared.item.Status.{Status}
 use Rattle.eval_queue.specs.Items.{with_status}
 use Rattle.requeue_core.proofs.Settling.{told, stays, changes, changes_twice, missing, no_item, then_status}
 use Rattle.requeue_core.proofs.lost.settle.Goals as goal

@@ -21,7 +21,7 @@ loop-at-init g c =
     let script = c.args.script.now in
     let all = cells script in
     let steps = c.args.steps in
-    let first : c.in-Ok.defs ≡ empty = c.in-Ok.ensures in
+    let first : c.new-state.result.defs ≡ empty = ap (λ s. s.definitions) c.new-state.ensures ∙ c.in-Ok.ensures in
     let begun = subst (λ rest. AreSoFar texts all steps rest empty 1 []) (sym c.requires.cells) (none_so_far texts all steps) in
     record {
       lines = ([], subst (λ d. AreSoFar texts all steps (map (span_text script) c.args.spans.now) d 1 []) (sym first) begun, appends-nothing _, takes_first (g.K.Sink.takes c.args.sink.now));
@@ -45,7 +45,7 @@ run_cell-requires-clause-lexed g c =
 pub returns-in_default-run_cell-clause-written : goal.returns-in_default-run_cell-clause-written
 returns-in_default-run_cell-clause-written g c =
     let so = c.loop-at.invariant.lines in
-    (so.0, so_far_begins c.args.names.now.texts c.args.steps c.args.script.now _ c.loop-at.defs (c.loop-at.at + 1) so.0 c.requires.texts so.1, so.2)
+    (so.0, so_far_begins c.args.names.now.texts c.args.steps c.args.script.now _ c.loop-at.state.defs (c.loop-at.at + 1) so.0 c.requires.texts so.1, so.2)
 
 pub returns-clause-written : goal.returns-clause-written
 returns-clause-written g c =
@@ -53,8 +53,8 @@ returns-clause-written g c =
     let script = c.args.script.now in
     let so = c.loop-at.invariant.lines in
     let ended : drop c.loop-at.at c.args.spans.now ≡ [] = drop_of_length-le c.args.spans.now (omega (arith, ap length c.as_slice-span-items.ensures, c.loop-at-test.false)) in
-    let all = subst (λ ss. AreSoFar texts (cells script) c.args.steps (map (span_text script) ss) c.loop-at.defs (c.loop-at.at + 1) so.0) ended so.1 in
-    (so.0, so_far_all texts c.args.steps script c.loop-at.defs (c.loop-at.at + 1) so.0 c.requires.texts all, so.2)
+    let all = subst (λ ss. AreSoFar texts (cells script) c.args.steps (map (span_text script) ss) c.loop-at.state.defs (c.loop-at.at + 1) so.0) ended so.1 in
+    (so.0, so_far_all texts c.args.steps script c.loop-at.state.defs (c.loop-at.at + 1) so.0 c.requires.texts all, so.2)
 
 pub returns-in-Err-clause-written : goal.returns-in-Err-clause-written
 returns-in-Err-clause-written g c =
@@ -64,10 +64,10 @@ returns-in-Err-clause-written g c =
     let inside : c.loop-at.at < length c.args.spans.now = omega (arith, ap length c.as_slice-span-items.ensures, c.loop-at-test.true) in
     let text : c.as_bytes.result.now ≡ line = c.as_bytes.ensures.value ∙ c.as_str.ensures in
     let part = subst (λ t. Appends (g.K.Sink.held c.loop-at.sink) (g.K.Sink.held c.write_all.new.self) (take c.in-Err.ensures.bytes.0 t)) text c.in-Err.ensures.bytes.1 in
-    let more = next_cell c.args.names.now c.args.steps script c.args.spans.now c.as_slice-span-items.result.now c.loop-at.at (record { from = 0; to = 0 }) c.loop-at.defs c.run_cell.new.defs (c.loop-at.at + 1) so.0
+    let more = next_cell c.args.names.now c.args.steps script c.args.spans.now c.as_slice-span-items.result.now c.loop-at.at (record { from = 0; to = 0 }) c.loop-at.state.defs c.run_cell.new.state.defs (c.loop-at.at + 1) so.0
     c.cell_text-cell.result.now line c.as_slice-span-items.ensures inside c.cell_text-cell.ensures so.1 c.in-Ok-run_cell.ensures.prints in
     let rose : Rose (g.K.Sink.faults c.args.sink.now) (g.K.Sink.faults c.write_all.new.self) = omega (arith, c.in-Err.ensures.failed, c.loop-at.invariant.counted) in
-    (rose, so.0, line, c.in-Err.ensures.bytes.0, so_far_begins c.args.names.now.texts c.args.steps script _ c.run_cell.new.defs (c.loop-at.at + 1 + 1) (so.0 ++ line ∷ []) c.requires.texts more, appends-more _ _ _ _ _ so.2 part)
+    (rose, so.0, line, c.in-Err.ensures.bytes.0, so_far_begins c.args.names.now.texts c.args.steps script _ c.run_cell.new.state.defs (c.loop-at.at + 1 + 1) (so.0 ++ line ∷ []) c.requires.texts more, appends-more _ _ _ _ _ so.2 part)
 
 pub returns-in-Err-clause-sure : goal.returns-in-Err-clause-sure
 returns-in-Err-clause-sure g c = λ room same.
@@ -76,9 +76,9 @@ returns-in-Err-clause-sure g c = λ room same.
     let line = c.in-Ok-run_cell.line in
     let inside : c.loop-at.at < length c.args.spans.now = omega (arith, ap length c.as_slice-span-items.ensures, c.loop-at-test.true) in
     let text : c.as_bytes.result.now ≡ line = c.as_bytes.ensures.value ∙ c.as_str.ensures in
-    let more = next_cell c.args.names.now c.args.steps script c.args.spans.now c.as_slice-span-items.result.now c.loop-at.at (record { from = 0; to = 0 }) c.loop-at.defs c.run_cell.new.defs (c.loop-at.at + 1) so.0
+    let more = next_cell c.args.names.now c.args.steps script c.args.spans.now c.as_slice-span-items.result.now c.loop-at.at (record { from = 0; to = 0 }) c.loop-at.state.defs c.run_cell.new.state.defs (c.loop-at.at + 1) so.0
     c.cell_text-cell.result.now line c.as_slice-span-items.ensures inside c.cell_text-cell.ensures so.1 c.in-Ok-run_cell.ensures.prints in
-    let begins = so_far_begins c.args.names.now.texts c.args.steps script _ c.run_cell.new.defs (c.loop-at.at + 1 + 1) (so.0 ++ line ∷ []) c.requires.texts more in
+    let begins = so_far_begins c.args.names.now.texts c.args.steps script _ c.run_cell.new.state.defs (c.loop-at.at + 1 + 1) (so.0 ++ line ∷ []) c.requires.texts more in
     let enough = takes_line (g.K.Sink.takes c.args.sink.now) so.0 line (room (so.0 ++ line ∷ []) begins) in
     absurd (true≢false (sym (c.in-Err.ensures.sure (subst (λ t. g.K.Sink.takes c.loop-at.sink (length t)) (sym text) (so.3 (length line) enough)))))
 
@@ -91,7 +91,7 @@ loop-at-preserved g c =
     let first = first_span c.args.spans.now c.as_slice-span-items.result.now c.loop-at.at (record { from = 0; to = 0 }) c.as_slice-span-items.ensures inside in
     let text : c.as_bytes.result.now ≡ line = c.as_bytes.ensures.value ∙ c.as_str.ensures in
     let part = subst (λ t. Appends (g.K.Sink.held c.loop-at.sink) (g.K.Sink.held c.write_all.new.self) t) text c.in-Ok-write_all.ensures.bytes in
-    let more = next_cell c.args.names.now c.args.steps script c.args.spans.now c.as_slice-span-items.result.now c.loop-at.at (record { from = 0; to = 0 }) c.loop-at.defs c.run_cell.new.defs (c.loop-at.at + 1) so.0
+    let more = next_cell c.args.names.now c.args.steps script c.args.spans.now c.as_slice-span-items.result.now c.loop-at.at (record { from = 0; to = 0 }) c.loop-at.state.defs c.run_cell.new.state.defs (c.loop-at.at + 1) so.0
     c.cell_text-cell.result.now line c.as_slice-span-items.ensures inside c.cell_text-cell.ensures so.1 c.in-Ok-run_cell.ensures.prints in
     let takes = g.K.Sink.takes in
     record {

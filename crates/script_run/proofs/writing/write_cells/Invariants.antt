@@ -15,10 +15,10 @@ invariant-loop-at g l =
     let K = g.K.Sink in
     let rest = map (span_text l.script) (drop l.at l.spans) in
     record {
-      lines : (lines : List (List ℕ)) × AreSoFar l.names.texts (cells l.script) l.steps rest l.defs (l.at + 1) lines × Appends (K.held l.fn.sink) (K.held l.sink) (all_joined lines)
+      lines : (lines : List (List ℕ)) × AreSoFar l.names.texts (cells l.script) l.steps rest l.state.defs (l.at + 1) lines × Appends (K.held l.fn.sink) (K.held l.sink) (all_joined lines)
           × ((more : ℕ) → K.takes l.fn.sink (length (all_joined lines) + more) → K.takes l.sink more);
       spans : AreCellSpans l.script (drop l.at l.spans);
       kept : AreKeptCells l.names.texts rest;
-      defined : AreKeptIn (length l.names.texts) l.defs;
+      defined : AreKeptIn (length l.names.texts) l.state.defs;
       counted : K.faults l.fn.sink ≤ K.faults l.sink;
     }

@@ -1,7 +1,6 @@
-use Rattle.std.proofs.Common.{◌≡◌, ◌++◌, ◌+◌, ◌*◌, length, drop}
+use Rattle.std.proofs.Common.{◌≡◌, ◌++◌, ◌+◌, ◌*◌, drop}
 use Rattle.expr_tree.specs.Tree.{trees, depth, depths}
 use Rattle.script_text.specs.Full.{full_items}
-use Rattle.script_text.specs.Laws.{AreKept}
 use Rattle.script_text.specs.Spelling.{by_texts}
 use Rattle.show_form.specs.Parts.{items_from}
 use Rattle.show_form.proofs.full_form.+put.Given as goal
@@ -14,7 +13,6 @@ decreases-put_items l = 2 * depths (trees l.items.now) + 1
 
 -- the text so far, and what is left of the elements
 abbrev pub invariant-put_items-loop-i : goal.invariant-put_items-loop-i
-invariant-put_items-loop-i l = record {
-  written : l.buffer ++ items_from (by_texts l.names.texts) l.i (trees (drop l.i l.items)) ≡ l.fn.buffer ++ full_items (by_texts l.names.texts) (trees l.items);
-  kept : AreKept (length l.names.texts) (trees (drop l.i l.items));
-}
+invariant-put_items-loop-i l =
+    l.buffer ++ items_from (by_texts l.names.texts) l.i (trees (drop l.i l.items))
+    ≡ l.fn.buffer ++ full_items (by_texts l.names.texts) (trees l.items)

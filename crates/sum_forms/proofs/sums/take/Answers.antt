@@ -10,7 +10,7 @@ returns-in_ok-push-in-Int c =
     let is : c.args.item.now ≡ integer c.in-Int.number = search rules in
     let names = names_in c.args.names.now in
     let numbers = c.args.numbers.now.items in
-    let groups = c.args.groups.now.items in
+    let parts = c.args.parts.now.items in
     let more : c.push.new.self.items ≡ numbers ++ c.in-Int.number ∷ [] = search rules in
-    subst (λ ns. TookTerm names c.args.item.now numbers groups ns groups) (sym more)
-    (subst (λ e. TookTerm names e numbers groups (numbers ++ c.in-Int.number ∷ []) groups) (sym is) (took-integer names c.in-Int.number numbers groups))
+    subst (λ ns. TookTerm names c.args.item.now numbers parts ns parts) (sym more)
+    (subst (λ e. TookTerm names e numbers parts (numbers ++ c.in-Int.number ∷ []) parts) (sym is) (took-integer names c.in-Int.number numbers parts))

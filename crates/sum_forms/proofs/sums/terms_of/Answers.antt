@@ -13,7 +13,7 @@ returns-in-Err c =
     let groups = c.args.groups.now in
     let i = c.loop-group.group-index in
     let done = c.loop-group.invariant.done in
-    let next : drop i groups ≡ c.group-item.result ∷ drop (i + 1) groups = rw (add-one i) (cut groups i c.group-item.result c.loop-group-test.true c.group-item.is).0 in
+    let next : drop i groups ≡ c.group-item.result ∷ drop (i + 1) groups = rw (add-one i) (cut groups i c.group-item.result c.loop-group-test.true c.group-item.is) in
     let failed : Written (with_one done (write_term names c.group-item.result)) (Err c.in-Err.fault) = subst (Written (with_one done (write_term names c.group-item.result))) c.in-Err.is (c.with_term.ensures done c.loop-group.invariant.plans) in
     written-whole (with_one done (write_term names c.group-item.result)) (written (write_term names) (drop (i + 1) groups)) (written (write_term names) groups) c.in-Err.fault
     (written-next names done c.group-item.result (drop (i + 1) groups) (drop i groups) (written (write_term names) groups) next c.loop-group.invariant.whole) failed

@@ -1,6 +1,6 @@
 use Rattle.std.proofs.Common.{◌∙◌, sym, ap}
 use Rattle.frames_control.proofs.Shown.{shown}
-use Rattle.frames_control.specs.Turning.{left_fixed_point}
+use Rattle.frames_control.specs.TurnForms.{left_fixed_point}
 use Rattle.frames_control.proofs.Turns.{fixed_done}
 use Rattle.frames_control.proofs.fixed_point.FixedPoint.step.Goals as goal
 

@@ -1,7 +1,7 @@
 use Rattle.std.proofs.Common.{◌∙◌, sym, ap}
 use Rattle.frames_control.proofs.Turns.{moved_as}
 use Rattle.builtin_names.specs.Named.{names_in}
-use Rattle.frames_control.specs.Turning.{left_select}
+use Rattle.frames_control.specs.TurnForms.{left_select}
 use Rattle.frames_control.proofs.Turns.{rejected}
 use Rattle.frames_control.proofs.select.Select.step.Goals as goal
 

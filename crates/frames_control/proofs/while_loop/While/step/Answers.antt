@@ -4,7 +4,7 @@ use Rattle.builtin_names.specs.Named.{names_in}
 use Rattle.semantics.specs.declared.builtin.Builtin.{Builtin}
 use Rattle.semantics.specs.Names.{is_name}
 use Rattle.semantics.specs.Program.{Done}
-use Rattle.frames_control.specs.Turning.{tested}
+use Rattle.frames_control.specs.TurnForms.{tested}
 use Rattle.frames_control.proofs.Turns.{is_tested, test_holds, test_fails}
 use Rattle.frames_control.proofs.while_loop.While.step.Goals as goal
 

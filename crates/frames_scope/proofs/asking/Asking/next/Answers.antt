@@ -1,4 +1,4 @@
-use Rattle.std.proofs.Common.{◌≡◌, ◌<◌, ◌≤◌, ◌+◌, ◌∷◌, [], length, get_or, Option, Some, None, refl, ap, sym, ◌∙◌, arith}
+use Rattle.std.proofs.Common.{◌≡◌, ◌<◌, ◌+◌, length, get_or, Some, refl, ap, sym, ◌∙◌, arith}
 use Rattle.frames_scope.proofs.Questions.{taken, passes_plain, asks_here, asks_done}
 use Rattle.frames_scope.proofs.asking.Asking.next.Goals as goal
 

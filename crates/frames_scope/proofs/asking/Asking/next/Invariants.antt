@@ -1,7 +1,7 @@
 use Rattle.std.proofs.Common.{◌≡◌, ◌≤◌, ◌-◌, length, List, None}
 use Rattle.semantics.specs.Program as p
 use Rattle.semantics.specs.Program.{Prog}
-use Rattle.frames_scope.specs.Left.{left_asking}
+use Rattle.frames_scope.specs.ScopingLeft.{left_asking}
 use Rattle.frames_scope.proofs.asking.Asking.next.Given as goal
 
 abbrev pub decreases-loop-self : goal.decreases-loop-self

@@ -8,4 +8,4 @@ returns-in-Some-clause-moved c =
 
 pub returns-in-None-clause-moved : goal.returns-in-None-clause-moved
 returns-in-None-clause-moved c =
-    λ limits names. module_made limits names c.args.self.now c.next.new.self c.args.answer c.made.result _ (rw c.in-None.is at c.in_ok-question.ensures.goes) c.made.ensures
+    λ limits names. module_made limits names c.args.self.now c.next.new.self c.args.answer c.make_symbols.result _ (rw c.in-None.is at c.in_ok-question.ensures.goes) c.make_symbols.ensures

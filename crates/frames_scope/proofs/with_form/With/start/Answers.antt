@@ -1,11 +1,9 @@
-use Rattle.std.proofs.Common.{◌≡◌, ap, sym, ◌∙◌}
+use Rattle.std.proofs.Common.{ap, sym, ◌∙◌}
 use Rattle.semantics.specs.InPlace.{put_in_place}
 use Rattle.semantics.specs.Program.{Done}
 use Rattle.semantics.specs.Scoping.{with_form}
-use Rattle.frames_scope.specs.Reading.{locals_in}
-use Rattle.frames_scope.specs.Left.{ask_each}
-use Rattle.frames_scope.specs.Asked.{all_valued, IsValued}
-use Rattle.frames_scope.proofs.Withs.{with_starts, with_stays}
+use Rattle.frames_scope.specs.ScopingLeft.{ask_each}
+use Rattle.frames_scope.proofs.Withs.{with_starts}
 use Rattle.frames_scope.proofs.with_form.With.start.Goals as goal
 
 pub returns : goal.returns

@@ -8,9 +8,12 @@ use Rattle.kernel_defs.proofs.Written.{absent_after, put_changed, stored_found, 
 use Rattle.kernel_defs.proofs.Tables.{on_err, on_ok_map}
 use Rattle.kernel_defs.proofs.defs.Defs.attach.Goals as goal
 
-pub attach_to-requires-clause-absent : goal.attach_to-requires-clause-absent
-attach_to-requires-clause-absent c =
-    absent_after c.args.self.now c.take.new.self c.args.target.symbol c.in-Some.entry.value.symbol c.take.ensures.rest c.in-Some.ensures.symbol
+pub attach_to-requires : goal.attach_to-requires
+attach_to-requires c =
+    record {
+      absent =
+          absent_after c.args.self.now c.take.new.self c.args.target.symbol c.in-Some.entry.value.symbol c.take.ensures.rest c.in-Some.ensures.symbol;
+    }
 
 pub returns-in_err-entry-in-None-clause-err : goal.returns-in_err-entry-in-None-clause-err
 returns-in_err-entry-in-None-clause-err c =
@@ -20,10 +23,13 @@ pub returns-in_err-attach-in-None-clause-err : goal.returns-in_err-attach-in-Non
 returns-in_err-attach-in-None-clause-err c =
     on_err c.from_residual-in_err-attach-in-None.result (c.take.ensures.rest ∙ without_absent c.args.self.now c.args.target.symbol (sym c.in-None.ensures.definition))
 
-pub store-requires-clause-absent : goal.store-requires-clause-absent
-store-requires-clause-absent c =
-    absent_after c.args.self.now c.take.new.self c.args.target.symbol c.attach.new.self.symbol c.take.ensures.rest
-    (c.attach.ensures.symbol ∙ ap (λ e. e.symbol) c.deref_mut.ensures.value ∙ c.in_ok-entry-in-None.ensures.symbol)
+pub store-requires : goal.store-requires
+store-requires c =
+    record {
+      absent =
+          absent_after c.args.self.now c.take.new.self c.args.target.symbol c.attach.new.self.symbol c.take.ensures.rest
+          (c.attach.ensures.symbol ∙ ap (λ e. e.symbol) c.deref_mut.ensures.value ∙ c.in_ok-entry-in-None.ensures.symbol);
+    }
 
 pub returns-in-Some-clause-ok : goal.returns-in-Some-clause-ok
 returns-in-Some-clause-ok c =

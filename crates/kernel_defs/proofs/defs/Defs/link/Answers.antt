@@ -18,6 +18,7 @@ invariant_of-self c =
           table_with_more c.self.inside.chains.items c.slot-at.result c.index_mut.result.now c.args.entry.value.symbol h c.push.new.self (definition_of c.args.entry.value.definition)
           c.push.ensures (ap (λ t. look_up t.entries c.args.entry.value.symbol) c.self.view_is ∙ c.requires);
       number = c.self.invariant.number;
+      no_rules = c.self.invariant.no_rules;
     }
 
 pub returns : goal.returns

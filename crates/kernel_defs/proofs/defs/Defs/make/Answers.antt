@@ -35,7 +35,10 @@ returns-clause-ok c =
     )
     ∙ sym (written_new (names_in c.args.names.now) old c.args.symbol new)
 
-pub store-requires-clause-absent : goal.store-requires-clause-absent
-store-requires-clause-absent c =
-    absent_after c.args.self.now c.take_or_first.new.self c.args.symbol c.set.new.self.symbol c.in_ok-entry.ensures.rest
-    (c.set.ensures.symbol ∙ ap (λ e. e.symbol) c.deref_mut.ensures.value ∙ c.in_ok-entry.ensures.symbol)
+pub store-requires : goal.store-requires
+store-requires c =
+    record {
+      absent =
+          absent_after c.args.self.now c.take_or_first.new.self c.args.symbol c.set.new.self.symbol c.in_ok-entry.ensures.rest
+          (c.set.ensures.symbol ∙ ap (λ e. e.symbol) c.deref_mut.ensures.value ∙ c.in_ok-entry.ensures.symbol);
+    }

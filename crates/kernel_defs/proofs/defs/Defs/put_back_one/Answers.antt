@@ -7,10 +7,13 @@ use Rattle.kernel_defs.specs.Saved.{piece_of}
 use Rattle.kernel_defs.proofs.Written.{absent_after, put_changed, put_first, first_is_first}
 use Rattle.kernel_defs.proofs.defs.Defs.put_back_one.Goals as goal
 
-pub store-requires-clause-absent : goal.store-requires-clause-absent
-store-requires-clause-absent c =
-    absent_after c.args.self.now c.take.new.self c.in-Kept.entry.value.symbol c.in-Kept.entry.value.symbol
-    (c.take.ensures.rest ∙ ap (λ e. without c.args.self.now e.symbol) c.deref.ensures) refl
+pub store-requires : goal.store-requires
+store-requires c =
+    record {
+      absent =
+          absent_after c.args.self.now c.take.new.self c.in-Kept.entry.value.symbol c.in-Kept.entry.value.symbol
+          (c.take.ensures.rest ∙ ap (λ e. without c.args.self.now e.symbol) c.deref.ensures) refl;
+    }
 
 pub returns-in-Kept : goal.returns-in-Kept
 returns-in-Kept c =

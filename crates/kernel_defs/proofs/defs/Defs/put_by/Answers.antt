@@ -9,9 +9,12 @@ use Rattle.kernel_defs.proofs.Written.{absent_after, put_changed}
 use Rattle.kernel_defs.proofs.Locals.{linked_again}
 use Rattle.kernel_defs.proofs.defs.Defs.put_by.Goals as goal
 
-pub store-requires-clause-absent : goal.store-requires-clause-absent
-store-requires-clause-absent c =
-    absent_after c.args.self.now c.take_piece-piece.new.self c.args.symbol c.in_ok-local.local.value.symbol c.take_piece-piece.ensures.rest c.in_ok-local.ensures.symbol
+pub store-requires : goal.store-requires
+store-requires c =
+    record {
+      absent =
+          absent_after c.args.self.now c.take_piece-piece.new.self c.args.symbol c.in_ok-local.local.value.symbol c.take_piece-piece.ensures.rest c.in_ok-local.ensures.symbol;
+    }
 
 pub link_piece-requires : goal.link_piece-requires
 link_piece-requires c =

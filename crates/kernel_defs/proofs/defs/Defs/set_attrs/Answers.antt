@@ -24,7 +24,10 @@ returns-clause-ok c =
     (c.set_attrs.ensures.definition ∙ (λ i. record { attributes = attributes i; own = (before i).own; downs = (before i).downs; ups = (before i).ups }))
     ∙ sym (written_attributes (names_in c.args.names.now) old c.args.symbol (attributes_in c.args.attrs))
 
-pub store-requires-clause-absent : goal.store-requires-clause-absent
-store-requires-clause-absent c =
-    absent_after c.args.self.now c.take_or_first.new.self c.args.symbol c.set_attrs.new.self.symbol c.in_ok-entry.ensures.rest
-    (c.set_attrs.ensures.symbol ∙ ap (λ e. e.symbol) c.deref_mut.ensures.value ∙ c.in_ok-entry.ensures.symbol)
+pub store-requires : goal.store-requires
+store-requires c =
+    record {
+      absent =
+          absent_after c.args.self.now c.take_or_first.new.self c.args.symbol c.set_attrs.new.self.symbol c.in_ok-entry.ensures.rest
+          (c.set_attrs.ensures.symbol ∙ ap (λ e. e.symbol) c.deref_mut.ensures.value ∙ c.in_ok-entry.ensures.symbol);
+    }

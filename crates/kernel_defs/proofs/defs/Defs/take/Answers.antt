@@ -18,6 +18,7 @@ invariant_of-self c =
       width = length-set c.self.inside.chains.items c.slot.result c.take.new.self ∙ c.self.invariant.width;
       table = table_without c.self.inside.chains.items c.slot.result c.index_mut.result.now c.args.symbol h c.take.new.self c.take.ensures.rest;
       number = c.self.invariant.number;
+      no_rules = c.self.invariant.no_rules;
     }
 
 pub returns-clause-definition : goal.returns-clause-definition

@@ -12,7 +12,7 @@ returns-in-Assign-clause-stepped c =
     goes_on _
     (same_program
     (ap (λ g. reached (names_in table) g l) c.in-Assign.is
-    ∙ begun_alike table c.args.scene.now.builtins _ c.args.list l _ r
+    ∙ begun_alike table c.rows_are_names.ensures _ c.args.list l _ r
     ∙ sym (ap (λ g. reached (names_in table) g c.args.list) c.in-Assign.is)))
     (c.reach.ensures.stepped stay)
 

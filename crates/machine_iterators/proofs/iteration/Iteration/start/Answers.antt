@@ -1,7 +1,7 @@
 use Rattle.std.proofs.Common.{◌∙◌, ap, arith}
 use Rattle.builtin_names.specs.Named.{names_in}
 use Rattle.semantics.specs.Control.{inner_form}
-use Rattle.machine_iterators.specs.Rows.{row_of}
+use Rattle.machine_iterators.specs.IterationForms.{row_of}
 use Rattle.machine_iterators.proofs.Beginning.{begins}
 use Rattle.machine_iterators.proofs.Shaping.{rest_of}
 use Rattle.machine_iterators.proofs.iteration.Iteration.start.Goals as goal

@@ -5,8 +5,8 @@ use Rattle.std.proofs.lemmas.Bool.{false≢true}
 use Rattle.expr_tree.specs.Tree.{integer}
 use Rattle.expr_tree.specs.View.{tree_of}
 use Rattle.builtin_names.specs.Named.{names_in}
-use Rattle.machine_iterators.specs.Asked.{and_then}
-use Rattle.machine_iterators.specs.Left.{goes}
+use Rattle.machine_iterators.specs.PartsAsked.{and_then}
+use Rattle.machine_iterators.specs.IterationLeft.{goes}
 use Rattle.machine_iterators.proofs.Asking.{number_goes}
 use Rattle.machine_iterators.proofs.parts.Parts.take.Goals as goal
 

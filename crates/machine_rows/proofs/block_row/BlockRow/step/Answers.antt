@@ -1,6 +1,6 @@
 use Rattle.std.proofs.Common.{◌≡◌, ◌∙◌, sym}
 use Rattle.builtin_names.specs.Named.{names_in}
-use Rattle.frames_scope.specs.Left as left
+use Rattle.frames_scope.specs.ScopingLeft as left
 use Rattle.frames_scope.specs.Reading.{locals_in}
 use Rattle.machine_rows.specs.Asking.{asks}
 use Rattle.machine_rows.specs.declared.block_row.BlockRow.{BlockRow}

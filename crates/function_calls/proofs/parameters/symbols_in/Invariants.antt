@@ -1,7 +1,0 @@
-use Rattle.std.proofs.Common.{◌≡◌, drop}
-use Rattle.semantics.specs.Scoping.{symbols_in}
-use Rattle.function_calls.proofs.Arguments.{behind}
-use Rattle.function_calls.proofs.parameters.symbols_in.Given as goal
-
-abbrev pub invariant-loop-item : goal.invariant-loop-item
-invariant-loop-item l = behind l.symbols (symbols_in (drop l.item-index l.items)) ≡ symbols_in l.items

@@ -1,0 +1,10 @@
+use Rattle.std.proofs.Common.{◌≡◌, drop}
+use Rattle.journal.specs.Forms.{with_shared}
+use Rattle.builtin_names.specs.Named.{names_in}
+use Rattle.shared_calls.specs.View.{share_of}
+use Rattle.kernel_sharing.proofs.sharing.with_shared.Given as goal
+
+abbrev pub invariant-loop-symbol : goal.invariant-loop-symbol
+invariant-loop-symbol l =
+    with_shared (names_in l.names) l.defs (share_of l.kind) (drop l.symbol-index l.symbols) l.shared
+    ≡ with_shared (names_in l.names) l.defs (share_of l.kind) l.symbols l.defs.shared

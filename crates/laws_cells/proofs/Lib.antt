@@ -1,0 +1,4 @@
+mod Forms
+mod Inside
+pub mod Cells
+pub mod Waits

@@ -1,6 +1,0 @@
-mod Rows
-mod Running
-mod Plain
-mod Going
-mod Starting
-mod Walking

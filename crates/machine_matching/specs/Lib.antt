@@ -1,5 +1,0 @@
-pub mod Left
-pub mod Moving
-pub mod Parts
-pub mod Picks
-pub mod Walks

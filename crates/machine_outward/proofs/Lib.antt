@@ -1,0 +1,7 @@
+mod MethodOptions
+mod Printing
+mod Combining
+mod Shaping
+mod Looping
+mod Beginning
+mod Moving

@@ -1,6 +1,0 @@
-use Rattle.builtin_names.specs.Named.{names_in}
-use Rattle.machine_replacing.proofs.Falling.{all_falls}
-use Rattle.machine_replacing.proofs.rewriting.step_all.Goals as goal
-
-pub returns-clause-falls : goal.returns-clause-falls
-returns-clause-falls c = all_falls (names_in c.args.scene.now.names.now) c.args.defs.now c.args.scene.now.limits c.args.walk.now c.go_all.new.walk c.args.answer c.go_all.result c.go_all.ensures

@@ -1,0 +1,14 @@
+mod Ending
+mod Falling
+mod Going
+mod PatternRows
+mod PatternStarts
+mod Rising
+mod RuleSets
+mod RuleStarts
+mod Running
+mod ScanPlain
+mod Scanning
+mod Trying
+mod TwoElements
+mod Walking

@@ -1,0 +1,10 @@
+pub mod Levels
+pub mod Parts
+pub mod Picks
+pub mod Rising
+pub mod Rounds
+pub mod RowLeft
+pub mod Scans
+pub mod Stepping
+pub mod Walks
+pub mod Weights
