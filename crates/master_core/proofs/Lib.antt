@@ -1,0 +1,7 @@
+mod Joins
+mod Delivered
+mod Dropping
+mod Crew
+mod Keeping
+mod Counting
+mod Sections

@@ -1,0 +1,6 @@
+use Rattle.std.proofs.Common.{rules}
+use Rattle.master_core.proofs.Keeping as k
+use Rattle.master_core.proofs.book.Book.new.Goals as goal
+
+pub invariant_of-result : goal.invariant_of-result
+invariant_of-result c = k.first_book _ _ _ _ _ (search rules) (search rules) (k.named_at c.args.names.now c.of.result.value c.symbol_for.result c.of.ensures c.symbol_for.ensures.symbol)

@@ -1,0 +1,6 @@
+use Rattle.std.proofs.Common.{ap, ◌∙◌}
+use Rattle.master_core.proofs.Joins as j
+use Rattle.master_core.proofs.state.State.bundle.Goals as goal
+
+pub returns : goal.returns
+returns c = c.bundle.ensures ∙ j.bundle_here c.args.self.now c.self.inside.queue c.args.id (ap (λ x. x.items) c.self.view_is)

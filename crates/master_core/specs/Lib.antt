@@ -1,0 +1,5 @@
+pub mod Joined
+pub mod Posting
+pub mod Waits
+pub mod Book
+pub mod Postings
