@@ -1,5 +1,7 @@
 -- What the evaluator says of a cell that is evaluated alone.
-use Rattle.std.proofs.Common.{◌≡◌, refl, sym, ◌∙◌, subst, ℕ, ◌<◌, false, List, [], length}
+use Rattle.std.proofs.Common.{◌≡◌, refl, sym, ap, ◌∙◌, subst, ℕ, ◌<◌, false, List, [], ◌∷◌, length}
+use Rattle.std.specs.Prelude.{Option, Some, None, Result, Ok, Err, IfOk}
+use Rattle.std.specs.declared.alloc.AllocError.{AllocError}
 use Rattle.expr_tree.specs.Tree.{Tree}
 use Rattle.expr_tree.specs.declared.limits.Limits.{Limits}
 use Rattle.expr_tree.specs.declared.limits.Stop.{Stop}
@@ -8,9 +10,12 @@ use Rattle.script_text.specs.Spelling.{by_texts}
 use Rattle.name_table.specs.Table.{NameTable}
 use Rattle.semantics.specs.declared.builtin.Builtin.{Builtin}
 use Rattle.semantics.specs.Definitions.{Definitions, empty}
+use Rattle.semantics.specs.Names.{Names, make}
 use Rattle.semantics.specs.Program.{Cell}
-use Rattle.semantics.specs.Play.{Setting, State, End, Value, Stopped}
+use Rattle.semantics.specs.Play.{Setting, State, End, Value, Stopped, Thrown, too_large}
+use Rattle.semantics.specs.Ends.{aborted, shown_throw}
 use Rattle.semantics.specs.Eval.{Event, Ended, eval}
+use Rattle.semantics.specs.Eval as sem
 use Rattle.builtin_names.specs.Named.{HasBuiltins, names_in}
 use Rattle.evaluation_steps.specs.Explain.{EndsAs}
 use Rattle.machine_steps.specs.Setup.{shown_by}
@@ -18,8 +23,8 @@ use Rattle.eval_seq.specs.Told.{Says}
 use Rattle.eval_seq.specs.declared.call.Outcome.{Outcome}
 use Rattle.laws_bases.specs.Kept.{AreKeptIn, IsKeptOutcome, StaysKept}
 use Rattle.laws_bases.proofs.Stay.{bases_stay}
-use Rattle.sequential_transcript.specs.Transcript.{shown_in, limits_of, alone}
-use Rattle.script_run.proofs.LineLemmas.{rows_kept}
+use Rattle.sequential_transcript.specs.Transcript.{shown_in, limits_of, alone, value_in}
+use Rattle.script_run.proofs.LineLemmas.{rows_kept, name_kept}
 
 pub first_kept : (count : ℕ) → AreKeptIn count empty
 first_kept count = record { entries = tt; shared = tt; named = tt }
@@ -71,3 +76,37 @@ module _ (table : NameTable) (h : HasBuiltins table) (steps : ℕ) (limits : Lim
   pub ended_by_stop : (d : Definitions) (e : Tree) (events : List Event) (outcome : Outcome) (cause : Stop) (st : State) → AreKeptIn (length table.texts) d → IsKept (length table.texts) e
       → outcome ≡ Outcome.Stopped cause → Says (eval told d e events) outcome st → st.used ≡ false → EndsAlone set (length table.texts) d e (Stopped cause) st.definitions
   ended_by_stop d e events outcome cause st defined kept is says unused = ended d e events (Stopped cause) st defined kept (subst (λ o. Says (eval told d e events) o st) is says) unused
+
+  pub ended_by_throw : (d : Definitions) (e : Tree) (events : List Event) (outcome : Outcome) (v : Tree) (st : State) → AreKeptIn (length table.texts) d → IsKept (length table.texts) e
+      → outcome ≡ Outcome.Thrown v → Says (eval told d e events) outcome st → st.used ≡ false → EndsAlone set (length table.texts) d e (Thrown v) st.definitions
+  ended_by_throw d e events outcome v st defined kept is says unused = ended d e events (Thrown v) st defined kept (subst (λ o. Says (eval told d e events) o st) is says) unused
+
+-- ---- what a throw shows
+
+throw_kept : (table : NameTable) → HasBuiltins table → (limits : Limits) (v : Tree) → IsKept (length table.texts) v → IsKept (length table.texts) (shown_throw (names_in table) limits v)
+throw_kept table h limits v kept = go (too_large limits held)
+  where
+    names : Names
+    names = names_in table
+
+    held : Tree
+    held = make names Builtin.Hold (make names Builtin.Throw (v ∷ []) ∷ [])
+
+    go : (o : Option Stop) → IsKept (length table.texts) (elim o [ None ↦ held | Some cause ↦ aborted names ])
+    go None = (name_kept table h Builtin.Hold, ((name_kept table h Builtin.Throw, (kept, tt)), tt))
+    go (Some cause) = name_kept table h Builtin.Aborted
+
+pub shown_value : (r : Result Tree AllocError) (names : Names) (steps : ℕ) (limits : Limits) (o : sem.Outcome) (v : Tree) → limits ≡ limits_of steps → o ≡ Ended (Thrown v)
+    → IfOk r (λ x. x ≡ shown_throw names limits v) → IfOk r (λ x. Some x ≡ value_in names (limits_of steps) o)
+shown_value (Ok x) names steps limits o v same is shown = ap Some (shown ∙ ap (λ l. shown_throw names l v) same) ∙ sym (ap (value_in names (limits_of steps)) is)
+shown_value (Err x) names steps limits o v same is shown = tt
+
+pub shown_kept : (r : Result Tree AllocError) (table : NameTable) → HasBuiltins table → (limits : Limits) (v : Tree) → IsKept (length table.texts) v
+    → IfOk r (λ x. x ≡ shown_throw (names_in table) limits v) → IfOk r (λ x. IsKept (length table.texts) x)
+shown_kept (Ok x) table h limits v kept shown = subst (IsKept (length table.texts)) (sym shown) (throw_kept table h limits v kept)
+shown_kept (Err x) table h limits v kept shown = tt
+
+-- what holds besides, whether memory is wanting or not
+pub shown_besides : (r : Result Tree AllocError) {P : Type 0} → P → IfOk r (λ x. P)
+shown_besides (Ok x) p = p
+shown_besides (Err x) p = tt

@@ -10,6 +10,7 @@ mod outside;
 mod report;
 mod run;
 mod script_names;
+mod thrown;
 mod unbuilt;
 mod value;
 mod words;

@@ -2,6 +2,7 @@
 ghost use Rattle.std.specs.Prelude.{◌≡◌};
 ghost use Rattle.expr_tree.specs.Tree.{trees};
 ghost use Rattle.builtin_names.specs.Named.{names_in};
+ghost use Rattle.row_kinds.specs.Kinds.{is_unbuilt_kind};
 ghost use Rattle.sequential_transcript.specs.Unbuilt.{is_unbuilt, names_unbuilt, has_unbuilt, have_unbuilt};
 
 use builtin_names::{Vocabulary, role_of};
@@ -9,11 +10,11 @@ use expr_tree::{Expr, Node, Sym};
 use row_kinds::{Kind, kind_of};
 use semantics::Builtin;
 
-/// Whether a row is not built.
-fn is_unbuilt(row: Builtin) -> bool
-    ensures { result ≡ is_unbuilt row }
+/// Whether the rows of a kind are not built, but for Throw and Catch.
+fn is_unbuilt_kind(kind: Kind) -> bool
+    ensures { result ≡ is_unbuilt_kind kind }
 {
-    match kind_of(row) {
+    match kind {
         Kind::Outward | Kind::KernelName => true,
         Kind::Plain
         | Kind::Numbers
@@ -26,6 +27,16 @@ fn is_unbuilt(row: Builtin) -> bool
         | Kind::Change
         | Kind::Matching
         | Kind::Replacing => false,
+    }
+}
+
+/// Whether a row is not built.
+fn is_unbuilt(row: Builtin) -> bool
+    ensures { result ≡ is_unbuilt row }
+{
+    match row {
+        Builtin::Throw | Builtin::Catch => false,
+        _ => is_unbuilt_kind(kind_of(row)),
     }
 }
 

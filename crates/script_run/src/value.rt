@@ -10,6 +10,7 @@ ghost use Rattle.laws_bases.specs.Kept.{AreKeptIn, IsKeptValue};
 ghost use Rattle.sequential_transcript.specs.Transcript.{limits_of, alone, ran, value_in};
 
 use crate::outside::NoOutside;
+use crate::thrown::shown_throw;
 use crate::unbuilt::has_unbuilt;
 use builtin_names::{Vocabulary, name};
 use eval_seq::{Context, Defs, KernelState, Mode, Outcome, eval};
@@ -44,8 +45,8 @@ fn is_within_depth(e: &Expr)
     let _ = e.depth();
 }
 
-/// The value of an expression that is evaluated alone; `$Aborted` where it stops. Where mode or kernel mattered, a call was needed, or
-/// a value was thrown, though no name of a row that does so stands in the cell, there is no answer but that of want of memory.
+/// What an expression that is evaluated alone shows: its value, `$Aborted` where it stops, what it throws. Where mode or kernel mattered
+/// or a call was needed, though no name of a row that does so stands in the cell, there is no answer but that of want of memory.
 fn evaluated(
     alloc: Global,
     names: &Vocabulary,
@@ -66,17 +67,17 @@ fn evaluated(
         mode: Mode::Cell,
         kernel: 0,
     };
+    let limits = limits_of(steps);
     let mut outside = NoOutside { names };
-    let outcome = eval(alloc, &context, &limits_of(steps), state, &mut outside, e);
+    let outcome = eval(alloc, &context, &limits, state, &mut outside, e);
     if state.used {
         return Err(AllocError);
     }
     match outcome {
         Outcome::Value(value) => Ok(value),
         Outcome::Stopped(_) => Ok(name(names, Builtin::Aborted)),
-        Outcome::Thrown(_) | Outcome::Quit | Outcome::Closed | Outcome::NoMemory => {
-            Err(AllocError)
-        }
+        Outcome::Thrown(value) => shown_throw(alloc, names, &limits, value),
+        Outcome::Quit | Outcome::Closed | Outcome::NoMemory => Err(AllocError),
     }
 }
 

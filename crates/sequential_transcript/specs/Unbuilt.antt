@@ -1,5 +1,5 @@
 -- Which expressions have a name whose row is not built.
---     is_unbuilt           the rows that are not built: those that need other kernels, shared symbols or an outside, and Throw and Catch
+--     is_unbuilt           the rows that are not built: those that need other kernels, shared symbols or an outside
 --     has_unbuilt          whether the name of one stands in an expression
 use Rattle.std.specs.Prelude.{Bool, false, ◌||◌, Some, None}
 use Rattle.expr_tree.specs.Tree.{Tree, Trees, integer, string, symbol, normal, nil, cons}
@@ -9,6 +9,8 @@ use Rattle.semantics.specs.Names.{Names, role_of}
 use Rattle.row_kinds.specs.Kinds as kinds
 
 abbrev pub is_unbuilt : Builtin → Bool
+is_unbuilt Builtin.Throw = false
+is_unbuilt Builtin.Catch = false
 is_unbuilt row = kinds.is_unbuilt row
 
 abbrev pub names_unbuilt : Names → Sym → Bool
