@@ -20,3 +20,5 @@ mod run;
 mod scripts;
 #[cfg(test)]
 mod statuses;
+#[cfg(test)]
+mod throwing;

@@ -20,6 +20,14 @@ const HELD: Nest = Nest {
     back: "]",
 };
 
+const THROWN: Nest = Nest {
+    front: "Throw[Hold[",
+    opening: "{",
+    core: "1",
+    closing: "}",
+    back: "]]",
+};
+
 const CALLS: Nest = Nest {
     front: "",
     opening: "f[",
@@ -62,6 +70,19 @@ fn a_reading_has_a_greatest_depth(rt: HostRuntime) -> Result<(), Fail> {
     assert!(rt; is_given_back(rt.alloc(), &HELD, 510)?);
     assert_eq!(rt;
         line_of(rt.alloc(), &HELD, 511)?.as_str(),
+        "Out[1]= $Aborted\n"
+    );
+    Ok(())
+}
+
+#[test]
+fn what_is_thrown_is_shown_to_a_greatest_depth(rt: HostRuntime) -> Result<(), Fail> {
+    let mut line = String::from_str(rt.alloc(), "Out[1]= Hold[")?;
+    push_cell(&mut line, &THROWN, 508)?;
+    line.push_str("]\n")?;
+    assert_eq!(rt; line_of(rt.alloc(), &THROWN, 508)?.as_str(), line.as_str());
+    assert_eq!(rt;
+        line_of(rt.alloc(), &THROWN, 509)?.as_str(),
         "Out[1]= $Aborted\n"
     );
     Ok(())

@@ -90,6 +90,8 @@ static CONTROL: &[Row] = values![
     "n = 0; Do[n += i, {i, 4}]; n" => "10",
     "Table[i j, {i, 2}, {j, 3}]" => "{{1, 2, 3}, {2, 4, 6}}",
     "Sum[i^2, {i, 1, 5, 2}]" => "35",
+    "Catch[Do[If[i > 3, Throw[i]], {i, 10}]]" => "4",
+    "Throw[5]" => "Hold[Throw[5]]",
     "(# + 1 &)[2]" => "3",
     "Hold[1 + 1]" => "Hold[1 + 1]",
     "HoldComplete[Evaluate[a]]" => "HoldComplete[Evaluate[a]]",

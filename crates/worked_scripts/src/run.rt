@@ -1,6 +1,6 @@
 //! The rows, run.
 use crate::row::Row;
-use crate::{edges, page, removing, rewriting, scripts};
+use crate::{edges, page, removing, rewriting, scripts, throwing};
 use port_io::{Bytes, Calls, MemSink, MemSource};
 use script_run::{Status, run_alone};
 use std::alloc::Global;
@@ -128,6 +128,13 @@ fn replacing_holds(rt: HostRuntime) -> Result<(), Fail> {
 #[test]
 fn taking_away_holds(rt: HostRuntime) -> Result<(), Fail> {
     let report = differing(rt.alloc(), removing::tables().as_slice())?;
+    assert_eq!(rt; report.as_str(), "");
+    Ok(())
+}
+
+#[test]
+fn throwing_holds(rt: HostRuntime) -> Result<(), Fail> {
+    let report = differing(rt.alloc(), throwing::tables().as_slice())?;
     assert_eq!(rt; report.as_str(), "");
     Ok(())
 }
