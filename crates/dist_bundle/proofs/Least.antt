@@ -209,15 +209,14 @@ module _ (names : Names) (d : Definitions) where
 
   below_of : (r x : Reach) (ss : List Sym) → IsBelow r x → ((s : Sym) → Among s ss → Among s x.symbols) → ((s : Sym) → Among s x.symbols → Opens names d s → x.table ≡ true)
       → IsBelow (reach_of names d r ss) x
-  below_of r x ss below new opens =
-      (
-        (λ s h. elim (puts_from s ss r.symbols h) [ inl l ↦ new s l | inr m ↦ below.0 s m ]),
-        (λ h.
-            elim (either r.table (opens_table names d ss) h) [
-              | inl l ↦ below.1 l
-              | inr m ↦ let found = opens_from ss m in opens found.0 (new found.0 found.1) found.2
-            ]),
-      )
+  below_of r x ss below new opens = (
+    (λ s h. elim (puts_from s ss r.symbols h) [ inl l ↦ new s l | inr m ↦ below.0 s m ]),
+    (λ h.
+        elim (either r.table (opens_table names d ss) h) [
+          | inl l ↦ below.1 l
+          | inr m ↦ let found = opens_from ss m in opens found.0 (new found.0 found.1) found.2
+        ]),
+  )
 
   module _ (seeds : List Sym) (x : Reach) (covers : Covers names d seeds x) where
     stored_below : (r : Reach) (s : Sym) → IsBelow r x → is_followed names d r s ≡ true → StoredIn d x.symbols s
@@ -346,7 +345,7 @@ module _ (names : Names) (d : Definitions) where
 
 -- ---- the only one
 
-same_truth : (a b : Bool) → (a ≡ true → b ≡ true) → (b ≡ true → a ≡ true) → a ≡ b
+pub same_truth : (a b : Bool) → (a ≡ true → b ≡ true) → (b ≡ true → a ≡ true) → a ≡ b
 same_truth true b f g = sym (f refl)
 same_truth false true f g = g refl
 same_truth false false f g = refl

@@ -1,2 +1,4 @@
 mod Least
 mod Searched
+mod Found
+mod Rows

@@ -1,18 +1,17 @@
 -- What the search for a closure has found, and what is left to be done.
 use Rattle.std.proofs.Common.{◌≡◌, refl, sym, ap, subst, ◌∙◌, ℕ, zero, suc, ◌<◌, ◌≤◌, Bool, true, false, List, [], ◌∷◌, ◌++◌, map, length, get_or, Option, Some, None, true≢false, inl, inr, arith}
-use Rattle.std.specs.Prelude.{◌&&◌, not, ◌⊎◌, ◌==◌, ◌+◌}
+use Rattle.std.specs.Prelude.{◌⊎◌, ◌==◌, ◌+◌}
 use Rattle.std.proofs.lemmas.List.{length-append}
 use Rattle.std.proofs.lemmas.Bool.{ltb-true, eqb-true}
 use Rattle.expr_tree.specs.declared.sym.Sym.{Sym}
 use Rattle.expr_tree.specs.Substitution.{among}
 use Rattle.semantics.specs.declared.builtin.Builtin.{Builtin}
 use Rattle.semantics.specs.Builtin.{rows, row_number, row_count}
-use Rattle.semantics.specs.Names.{Names, IsNames, known, role_of}
+use Rattle.semantics.specs.Names.{Names, IsNames, known}
 use Rattle.semantics.specs.Definitions.{Definitions}
 use Rattle.journal.specs.Places.{is_some}
-use Rattle.journal.specs.Closure.{is_row, is_shared, stored_symbols, Reach, put_symbol, closure}
+use Rattle.journal.specs.Closure.{is_row, is_shared, stored_symbols, put_symbol, closure}
 use Rattle.laws_journal.specs.Symbols.{Ascends, MembersTell, ClosuresAscend}
-use Rattle.laws_journal.proofs.Tables.{none≢some, some_is}
 use Rattle.builtin_names.proofs.Places.{row_here}
 use Rattle.dist_bundle.specs.Search.{Search, nothing, found, added, added_all, stored_added, followed, row_symbols, table_followed, turn}
 use Rattle.dist_bundle.proofs.Least.{Among, first, among_rest, among_cases, among_at, among_left, among_right, among_either, put_there, put_keeps, put_from, IsBelow, Opens, StoredIn, Covers, closure_covers, closure_is}

@@ -4,6 +4,7 @@
 
 mod bundle;
 mod reach;
+mod search;
 
 pub use bundle::{Bundle, BundleEntry};
 pub use reach::Reach;
