@@ -1,5 +1,5 @@
 -- What is read of the kernels.
-use Rattle.std.proofs.Common.{◌≡◌, refl, sym, ap, subst, ◌∙◌, ℕ, zero, suc, ◌+◌, ◌<◌, ◌≤◌, List, [], ◌∷◌, length, map, Bool, true, false, true≢false, Option, Some, None, arith, inl, inr}
+use Rattle.std.proofs.Common.{◌≡◌, refl, sym, ap, subst, ◌∙◌, ℕ, zero, suc, ◌+◌, ◌<◌, ◌≤◌, List, [], ◌∷◌, length, map, Bool, true, false, true≢false, Option, Some, None, arith, inl, inr, get_or}
 use Rattle.std.specs.Prelude.{◌||◌, ◌⊎◌, MatchOption, IfSome}
 use Rattle.expr_tree.specs.declared.sym.Sym.{Sym}
 use Rattle.expr_tree.specs.Substitution.{among}
@@ -17,6 +17,14 @@ lives_from n zero (b ∷ bs) [] hs = refl
 lives_from n zero (b ∷ bs) (o ∷ os) hs = refl
 lives_from n (suc p) (b ∷ bs) [] hs = lives_from (suc n) p bs [] hs
 lives_from n (suc p) (b ∷ bs) (o ∷ os) hs = lives_from (suc n) p bs os hs
+
+pub attempt_from : (n p : ℕ) (bs : List Bool) (os : List (Option ℕ)) (hs : List Held) (o : Option ℕ) → length os ≡ length bs → p < length os
+    → get_or os p o ≡ elim (nth (kernels_in n bs os hs) p) as (λ _. Option ℕ) [ None ↦ None | Some x ↦ x.attempt ]
+attempt_from n p [] [] hs d long lt = absurd (omega (arith, lt))
+attempt_from n p [] (o ∷ os) hs d long lt = absurd (omega (arith, long))
+attempt_from n p (b ∷ bs) [] hs d long lt = absurd (omega (arith, long))
+attempt_from n zero (b ∷ bs) (o ∷ os) hs d long lt = refl
+attempt_from n (suc p) (b ∷ bs) (o ∷ os) hs d long lt = attempt_from (suc n) p bs os hs d (omega (arith, long)) (omega (arith, lt))
 
 pub count_from : (n : ℕ) (bs : List Bool) (os : List (Option ℕ)) (hs : List Held) → count_living (map new_kernel bs) ≡ count_living (kernels_in n bs os hs)
 count_from n [] os hs = refl

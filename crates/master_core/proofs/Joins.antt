@@ -39,6 +39,21 @@ made c d p ds is ks w fs ls b e = record {
   by = λ set i. record { definitions = ds set i; items = is set i; kernels = ks i; wait = w i; finished = fs set i; lines = ls set i; begun = b i; closed = e i };
 }
 
+-- of one setup
+pub made_in : (set : Setup) (c b d : Core) (p : Posted) → c ≡ b
+    → d.definitions ≡ definitions_after set c p.handed p.entry.event
+    → d.items ≡ items_after set c p.handed p.entry.kernel p.entry.event
+    → d.kernels ≡ change_at p.entry.kernel (kernel_after p.entry.event) c.kernels
+    → d.wait ≡ wait_after c.wait p.entry.event
+    → d.finished ≡ c.finished ++ ids_given set p.entry.kernel p.entry.event 1 c.items
+    → d.lines ≡ lines_after set c p.entry.event
+    → d.begun ≡ (c.begun || (p.entry.kernel == 0))
+    → d.closed ≡ is_close p.entry.event
+    → d ≡ effect set b p
+made_in set c b d p view ds is ks w fs ls bg e =
+    let made : d ≡ effect set c p = λ i. record { definitions = ds i; items = is i; kernels = ks i; wait = w i; finished = fs i; lines = ls i; begun = bg i; closed = e i } in
+    made ∙ ap (λ x. effect set x p) view
+
 pub or_true : (b : Bool) → true ≡ (b || true)
 or_true true = refl
 or_true false = refl
@@ -188,7 +203,7 @@ pub viewed : {p : Posted} {a b new : Core} → a ≡ b → Makes p a new → Mak
 viewed {p} {a} {b} {new} e m = subst (λ x. Makes p x new) e m
 
 -- who runs an item is one of the kernels
-nth_within : {A : Type 0} (xs : List A) (k : ℕ) → (nth xs k ≡ None) ⊎ (k < length xs)
+pub nth_within : {A : Type 0} (xs : List A) (k : ℕ) → (nth xs k ≡ None) ⊎ (k < length xs)
 nth_within [] k = inl refl
 nth_within (x ∷ xs) zero = inr (omega arith)
 nth_within (x ∷ xs) (suc k) = go (nth_within xs k)

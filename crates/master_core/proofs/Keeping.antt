@@ -12,16 +12,20 @@ use Rattle.journal.specs.declared.event.Event.{Event}
 use Rattle.journal.specs.declared.event.Event.TheVariants as event
 use Rattle.journal.specs.declared.event.Wait.{Wait}
 use Rattle.journal.specs.declared.item.Item.{Item}
+use Rattle.journal.specs.declared.loss.Loss.{Loss}
 use Rattle.journal.specs.declared.item.Status.{Status}
 use Rattle.journal.specs.declared.item.Status.TheVariants.{Waiting, Running, Done, Dropped}
 use Rattle.journal.specs.Entry.{Text, Handed, Posted, Nothing, Given, Lent}
 use Rattle.journal.specs.Core.{Setup, Core, Kernel, Queued, new_kernel, start, status_of, attempt_of, has_attempt, in_evaluation, count, holds_nothing, all_free, no_wait, lives, is_waiting, may_go, first_for, is_id, may_take, may_post, may_submit, may_yield, runs, condition_holds, permitted, allowed, definitions_after, wait_after, kernel_after, is_close, effect, replay, replay_from}
 use Rattle.journal.specs.Members.{Opening, setup_of}
+use Rattle.laws_journal.specs.Views.{DoersAgree}
 use Rattle.name_table.specs.Table.{NameTable}
 use Rattle.semantics.specs.Texts.{names_of}
 use Rattle.builtin_names.specs.Named.{names_in}
 use Rattle.master_core.specs.Posting.{posting, Makes}
 use Rattle.master_core.proofs.Joins.{replicate_len}
+use Rattle.master_core.specs.declared.losing.Terms.{Terms}
+use Rattle.master_core.specs.Losing.{IsOn}
 use Rattle.master_core.specs.Book.{Contents, IsBook, IsEntered, is_shut, first_take}
 
 -- ---- truth values
@@ -158,7 +162,7 @@ change_len k f [] = refl
 change_len zero f (x ∷ xs) = refl
 change_len (suc k) f (x ∷ xs) = ap suc (change_len k f xs)
 
-pub keeps : (o : Opening) (ps qs : List Posted) (c d : Core) (defs : Definitions) (f : Sym) (p : Posted)
+pub keeps : (o : Opening) (ps qs : List Posted) (c d : Core) (defs : Definitions) (f : Terms) (p : Posted)
     → IsBook o ps c defs f → allowed (setup_of o) c p ≡ true → Makes p c d → qs ≡ ps ++ p ∷ []
     → (is_some d.wait ≡ true → d.definitions ≡ defs) → (is_some d.wait ≡ true → d.closed ≡ false) → IsBook o qs d defs f
 keeps o ps qs c d defs f p is may makes e lent unclosed = record {
@@ -167,10 +171,11 @@ keeps o ps qs c d defs f p is may makes e lent unclosed = record {
   unclosed = unclosed;
   kernels = ap (λ x. length x.kernels) (makes.by (setup_of o)) ∙ change_len p.entry.kernel (kernel_after p.entry.event) c.kernels ∙ is.kernels;
   named = is.named;
+  listed = is.listed;
 }
 
 -- where the definitions stay and no wait begins
-pub keeps_on : (o : Opening) (ps qs : List Posted) (c d : Core) (defs : Definitions) (f : Sym) (p : Posted)
+pub keeps_on : (o : Opening) (ps qs : List Posted) (c d : Core) (defs : Definitions) (f : Terms) (p : Posted)
     → IsBook o ps c defs f → allowed (setup_of o) c p ≡ true → Makes p c d → qs ≡ ps ++ p ∷ []
     → definitions_after (setup_of o) c p.handed p.entry.event ≡ c.definitions → (is_some (wait_after c.wait p.entry.event) ≡ true → is_some c.wait ≡ true) → is_close p.entry.event ≡ false → IsBook o qs d defs f
 keeps_on o ps qs c d defs f p is may makes e stay waits open_still =
@@ -182,13 +187,13 @@ not_some : (b : Bool) → not b ≡ true → b ≡ true → ⊥
 not_some true n e = true≢false (sym n)
 not_some false n e = true≢false (sym e)
 
-pub keeps_close : (o : Opening) (ps qs : List Posted) (c d : Core) (defs : Definitions) (f : Sym)
+pub keeps_close : (o : Opening) (ps qs : List Posted) (c d : Core) (defs : Definitions) (f : Terms)
     → IsBook o ps c defs f → c.closed ≡ false → no_wait c ≡ true → Makes (posting 0 event.Close Nothing) c d → qs ≡ ps ++ posting 0 event.Close Nothing ∷ [] → IsBook o qs d defs f
 keeps_close o ps qs c d defs f is unclosed free makes e =
     let none : is_some d.wait ≡ true → ⊥ = λ w. not_some (is_some c.wait) free (sym (ap (λ x. is_some x.wait) (makes.by (setup_of o))) ∙ w) in
     keeps o ps qs c d defs f (posting 0 event.Close Nothing) is (close_may (setup_of o) c unclosed free) makes e (λ w. absurd (none w)) (λ w. absurd (none w))
 
-pub keeps_yield : (o : Opening) (ps qs : List Posted) (c d : Core) (defs : Definitions) (f : Sym) (w : Wait)
+pub keeps_yield : (o : Opening) (ps qs : List Posted) (c d : Core) (defs : Definitions) (f : Terms) (w : Wait)
     → IsBook o ps c defs f → c.closed ≡ false → no_wait c ≡ true → may_yield c w ≡ true → Makes (posting 0 (event.Yield w) (Lent defs)) c d
     → qs ≡ ps ++ posting 0 (event.Yield w) (Lent defs) ∷ [] → IsBook o qs d defs f
 keeps_yield o ps qs c d defs f w is unclosed free may makes e =
@@ -205,9 +210,9 @@ entered a b p may makes ps o ds s = record {
 pub entered_viewed : {p : Posted} {a b new : Contents} → a ≡ b → IsEntered p a new → IsEntered p b new
 entered_viewed {p} {a} {b} {new} e m = subst (λ x. IsEntered p x new) e m
 
-pub first_book : (o : Opening) (ps : List Posted) (c : Core) (d : Definitions) (f : Sym)
-    → ps ≡ [] → ((set : Setup) → set.kernels ≡ o.kernels → c ≡ start set) → known (setup_of o).names Builtin.Failed ≡ f → IsBook o ps c d f
-first_book o ps c d f e starts named =
+pub first_book : (o : Opening) (ps : List Posted) (c : Core) (d : Definitions) (f : Terms)
+    → ps ≡ [] → ((set : Setup) → set.kernels ≡ o.kernels → c ≡ start set) → known (setup_of o).names Builtin.Failed ≡ f.failed → known (setup_of o).names Builtin.List ≡ f.list → IsBook o ps c d f
+first_book o ps c d f e starts named listed =
     let at = starts (setup_of o) refl in
     let none : is_some c.wait ≡ true → ⊥ = λ w. true≢false (sym w ∙ ap (λ x. is_some x.wait) at) in
     record {
@@ -216,11 +221,12 @@ first_book o ps c d f e starts named =
       unclosed = λ w. absurd (none w);
       kernels = ap (λ x. length x.kernels) at ∙ ap suc (replicate_len o.kernels (new_kernel true));
       named = named;
+      listed = listed;
     }
 
-pub named_at : (table t : NameTable) (f : Sym) → t ≡ table → f ≡ known (names_in table) Builtin.Failed → known (names_of t.texts) Builtin.Failed ≡ f
+pub named_at : (row : Builtin) (table t : NameTable) (s : Sym) → t ≡ table → s ≡ known (names_in table) row → known (names_of t.texts) row ≡ s
 unfolding names_in
-named_at table t f e is = ap (λ x. known (names_of x.texts) Builtin.Failed) e ∙ sym is
+named_at row table t s e is = ap (λ x. known (names_of x.texts) row) e ∙ sym is
 
 -- ---- entries inside an evaluation
 
@@ -241,5 +247,46 @@ enter_may set c k ls unshut turn inside some outside free =
     (all4 (in_evaluation c k) (not (is_empty ls)) (holds_nothing c k) (all_free c ls) inside (ap not some) outside free)
 
 -- other definitions while no wait stands
-pub keeps_swap : (o : Opening) (ps : List Posted) (c : Core) (d e : Definitions) (f : Sym) → IsBook o ps c d f → no_wait c ≡ true → IsBook o ps c e f
-keeps_swap o ps c d e f is free = record { replayed = is.replayed; lent = λ w. absurd (not_some (is_some c.wait) free w); unclosed = is.unclosed; kernels = is.kernels; named = is.named }
+pub keeps_swap : (o : Opening) (ps : List Posted) (c : Core) (d e : Definitions) (f : Terms) → IsBook o ps c d f → no_wait c ≡ true → IsBook o ps c e f
+keeps_swap o ps c d e f is free = record { replayed = is.replayed; lent = λ w. absurd (not_some (is_some c.wait) free w); unclosed = is.unclosed; kernels = is.kernels; named = is.named; listed = is.listed }
+
+-- ---- a kernel that is lost
+
+pub lives_yet : (c : Core) (k : ℕ) → (k == 0) ≡ false → is_shut c k ≡ false → lives c k ≡ true
+lives_yet c k other e = go c.closed (k == 0) (lives c k) other e
+  where
+    go : (a b l : Bool) → b ≡ false → (a || (not b && not l)) ≡ false → l ≡ true
+    go true b l f g = absurd (true≢false g)
+    go false true l f g = absurd (true≢false f)
+    go false false true f g = refl
+    go false false false f g = absurd (true≢false g)
+
+pub lose_may : (set : Setup) (c : Core) (k : ℕ) (cause : Loss) → (k == 0) ≡ false → is_shut c k ≡ false → may_post c ≡ true → allowed set c (posting k (event.Lose cause) Nothing) ≡ true
+lose_may set c k cause other unshut turn =
+    allow set c k (event.Lose cause) Nothing (open_not_shut c k unshut) (or_right (k == 0) (may_post c) turn) (all2 (not (k == 0)) (lives c k) (ap not other) (lives_yet c k other unshut))
+
+pub terms_on : (o : Opening) (ps : List Posted) (c : Core) (d : Definitions) (f : Terms) → IsBook o ps c d f → o.recovery ≡ f.recovery → IsOn (setup_of o) f
+terms_on o ps c d f is same = record { recovers = same; failed = is.named; list = is.listed }
+
+pub runners : DoersAgree → (o : Opening) (ps : List Posted) (c : Core) (d : Definitions) (f : Terms) → IsBook o ps c d f → (k id : ℕ) → status_of c id ≡ Some (Running k) → attempt_of c k ≡ Some id
+runners law o ps c d f is k id e = (law (setup_of o) ps c is.replayed).0 id k e
+
+pub keeps_loss : (o : Opening) (ps qs : List Posted) (c d : Core) (defs : Definitions) (f : Terms) (k : ℕ) (cause : Loss)
+    → IsBook o ps c defs f → allowed (setup_of o) c (posting k (event.Lose cause) Nothing) ≡ true → d ≡ effect (setup_of o) c (posting k (event.Lose cause) Nothing)
+    → qs ≡ ps ++ posting k (event.Lose cause) Nothing ∷ [] → IsBook o qs d defs f
+keeps_loss o ps qs c d defs f k cause is may makes e = record {
+  replayed = ap (replay (setup_of o)) e ∙ more_from (setup_of o) (start (setup_of o)) c ps (posting k (event.Lose cause) Nothing) is.replayed may ∙ ap Some (sym makes);
+  lent = λ w. ap (λ x. x.definitions) makes ∙ is.lent (sym (ap (λ x. is_some x.wait) makes) ∙ w);
+  unclosed = λ w. ap (λ x. x.closed) makes;
+  kernels = ap (λ x. length x.kernels) makes ∙ change_len k (kernel_after (event.Lose cause)) c.kernels ∙ is.kernels;
+  named = is.named;
+  listed = is.listed;
+}
+
+pub entered_loss : (a b : Contents) (k : ℕ) (cause : Loss) → allowed (setup_of a.opening) a.core (posting k (event.Lose cause) Nothing) ≡ true
+    → b.core ≡ effect (setup_of a.opening) a.core (posting k (event.Lose cause) Nothing) → b.posted ≡ a.posted ++ posting k (event.Lose cause) Nothing ∷ [] → b.opening ≡ a.opening
+    → b.definitions ≡ a.definitions → b.starved ≡ a.starved → IsEntered (posting k (event.Lose cause) Nothing) a b
+entered_loss a b k cause may makes ps o ds s = record {
+  may = may;
+  entered = λ i. record { opening = o i; posted = ps i; core = makes i; definitions = ds i; starved = s i };
+}

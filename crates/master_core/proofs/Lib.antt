@@ -5,3 +5,4 @@ mod Crew
 mod Keeping
 mod Counting
 mod Sections
+mod Lost

@@ -7,6 +7,7 @@ use Rattle.expr_tree.specs.declared.sym.Sym.{Sym}
 use Rattle.semantics.specs.Definitions.{is_empty}
 use Rattle.journal.specs.Places.{nth, change_at, is_some}
 use Rattle.journal.specs.declared.event.Event.{Event}
+use Rattle.journal.specs.declared.loss.Loss.{Loss}
 use Rattle.journal.specs.Core.{Core, Kernel, kernel_after, locks_of, held_by_some, holds_nothing, all_free}
 use Rattle.crit_locks.proofs.Frees.{are_free_alike}
 use Rattle.crit_locks.proofs.Holders.{holder_is_told}
@@ -32,6 +33,9 @@ left_or false ls e = e
 
 pub leave_within : (k m : ℕ) (hs is : List Held) → HeldAfter Event.Leave k hs is → ((j : ℕ) → m ≤ j → locks_by j hs ≡ []) → (j : ℕ) → m ≤ j → locks_by j is ≡ []
 leave_within k m hs is held within j far = held j ∙ left_or (k == j) (locks_by j hs) (within j far)
+
+pub lose_within : (cause : Loss) (k m : ℕ) (hs is : List Held) → HeldAfter (Event.Lose cause) k hs is → ((j : ℕ) → m ≤ j → locks_by j hs ≡ []) → (j : ℕ) → m ≤ j → locks_by j is ≡ []
+lose_within cause k m hs is held within j far = held j ∙ left_or (k == j) (locks_by j hs) (within j far)
 
 -- ---- a section that is entered
 

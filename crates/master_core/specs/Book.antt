@@ -2,7 +2,7 @@
 --     Contents              what the run began with, what was posted, the core, the definitions that lie in the book, whether a kernel starved
 --     opening_with          an opening by its parts
 --     IsReplayed            the core is the replay of what was posted; a wait that stands has the definitions that lie there
---     IsBook                the same of the parts of a book, with the symbol $Failed that it keeps
+--     IsBook                the same of the parts of a book, with the symbols that it keeps
 --     IsEntered             one entry more, which might be posted
 --     is_shut               whether a kernel may post nothing any more
 --     MayPost, IsInside     that it may post if it is not shut, and is inside an evaluation
@@ -20,6 +20,7 @@ use Rattle.journal.specs.declared.recover.Recover.{Recover}
 use Rattle.journal.specs.Entry.{Text, Posted}
 use Rattle.journal.specs.Core.{Setup, Core, may_post, in_evaluation, lives, may_take, first_for, allowed, effect, replay, condition_holds, locks_of}
 use Rattle.journal.specs.Members.{Opening, setup_of}
+use Rattle.master_core.specs.declared.losing.Terms.{Terms}
 use Rattle.master_core.specs.declared.answers.TakeNo.{TakeNo}
 use Rattle.master_core.specs.declared.answers.No.{No}
 use Rattle.master_core.specs.declared.answers.EnterNo.{EnterNo}
@@ -42,12 +43,13 @@ pub record IsReplayed (b : Contents) : Type 0 where
   pub unclosed : is_some b.core.wait ≡ true → b.core.closed ≡ false
   pub kernels : length b.core.kernels ≡ suc b.opening.kernels
 
-pub record IsBook (o : Opening) (ps : List Posted) (c : Core) (d : Definitions) (failure : Sym) : Type 0 where
+pub record IsBook (o : Opening) (ps : List Posted) (c : Core) (d : Definitions) (terms : Terms) : Type 0 where
   pub replayed : replay (setup_of o) ps ≡ Some c
   pub lent : is_some c.wait ≡ true → c.definitions ≡ d
   pub unclosed : is_some c.wait ≡ true → c.closed ≡ false
   pub kernels : length c.kernels ≡ suc o.kernels
-  pub named : known (setup_of o).names Builtin.Failed ≡ failure
+  pub named : known (setup_of o).names Builtin.Failed ≡ terms.failed
+  pub listed : known (setup_of o).names Builtin.List ≡ terms.list
 
 abbrev pub with_entry : Posted → Contents → Contents
 with_entry p b = record b { posted = b.posted ++ p ∷ []; core = effect (setup_of b.opening) b.core p }

@@ -3,3 +3,4 @@ pub mod Posting
 pub mod Waits
 pub mod Book
 pub mod Postings
+pub mod Losing

@@ -1,4 +1,4 @@
-ghost use Rattle.std.specs.Prelude.{◌≡◌, ◌≤◌, suc, [], true, false, None, Some, length, IfOk, IfErr, OnOk, OnErr};
+ghost use Rattle.std.specs.Prelude.{◌≡◌, ◌≤◌, ◌==◌, suc, [], true, false, None, Some, length, IfOk, IfErr, OnOk, OnErr};
 ghost use Rattle.semantics.specs.Definitions as d;
 ghost use Rattle.journal.specs.declared.event.Event.TheVariants as event;
 ghost use Rattle.journal.specs.Places.{is_some};
@@ -11,12 +11,14 @@ ghost use Rattle.master_core.specs.Book.{IsEntered, IsReplayed, opening_with, is
 
 use crate::answers::{EnterNo, No, TakeNo, Taken, WaitNo};
 use crate::ledger::Journal;
+use crate::losing::Terms;
 use crate::state::State;
 use builtin_names::{Vocabulary, symbol_for};
 use dist_bundle::Bundle;
-use expr_tree::{Expr, Exprs, Limits, Sym, Syms, Text, Texts};
-use journal::{Entry, Event, Handed, Item, Posted, Recover, Wait};
+use expr_tree::{Expr, Exprs, Limits, Syms, Text, Texts};
+use journal::{Entry, Event, Handed, Item, Loss, Posted, Recover, Wait};
 use kernel_defs::{Defs, symbols_of};
+use laws_journal::items_that_run_are_run;
 use semantics::Builtin;
 use std::alloc::{AllocError, Global};
 use std::marker::Model;
@@ -28,9 +30,8 @@ use std::snapshot::Snapshot;
 pub struct Book {
     kernels: u32,
     limits: Limits,
-    recovery: Recover,
     names: Snapshot<Vocabulary>,
-    failed: Sym,
+    terms: Terms,
     state: State,
     defs: Defs,
     journal: Journal,
@@ -46,9 +47,9 @@ impl Model for Book {
 
     ghost coded = { Prim.hlevel (codes, coded_tree) };
 
-    ghost view = { λ b. record { opening = opening_with b.kernels b.limits b.names.value.texts b.recovery; posted = b.journal.posted; core = b.state; definitions = b.defs; starved = b.starved } };
+    ghost view = { λ b. record { opening = opening_with b.kernels b.limits b.names.value.texts b.terms.recovery; posted = b.journal.posted; core = b.state; definitions = b.defs; starved = b.starved } };
 
-    ghost invariant = { λ b. IsBook (opening_with b.kernels b.limits b.names.value.texts b.recovery) b.journal.posted b.state b.defs b.failed };
+    ghost invariant = { λ b. IsBook (opening_with b.kernels b.limits b.names.value.texts b.terms.recovery) b.journal.posted b.state b.defs b.terms };
 }
 
 impl Book {
@@ -68,9 +69,12 @@ impl Book {
         Ok(Book {
             kernels,
             limits,
-            recovery,
             names: Snapshot::of(names),
-            failed: symbol_for(names, Builtin::Failed),
+            terms: Terms {
+                recovery,
+                failed: symbol_for(names, Builtin::Failed),
+                list: symbol_for(names, Builtin::List),
+            },
             state,
             defs,
             journal: Journal::new(alloc),
@@ -97,7 +101,7 @@ impl Book {
         ensures { result ≡ core.may_take (setup_of self.now.opening) self.now.core kernel }
     {
         if kernel == 0 {
-            self.state.count() == 0 && self.state.unmet(self.failed).is_some()
+            self.state.count() == 0 && self.state.unmet(self.terms.failed).is_some()
         } else {
             self.state.lives(kernel)
         }
@@ -165,10 +169,10 @@ impl Book {
         ensures err { OnErr result (self.new ≡ self.old) }
     {
         self.journal.reserve()?;
-        if let Some(unmet) = self.state.unmet(self.failed) {
+        if let Some(unmet) = self.state.unmet(self.terms.failed) {
             return Err(WaitNo::NotYet(unmet));
         }
-        let reply = self.state.reply(alloc, self.failed)?;
+        let reply = self.state.reply(alloc, self.terms.failed)?;
         self.state.end_wait();
         let event = Event::Resume;
         self.journal.add(Posted {
@@ -246,6 +250,29 @@ impl Book {
 }
 
 impl Book {
+    /// A kernel, which is not the master, is lost. Its section ends, the item that it runs waits again or is abandoned, and items for it
+    /// alone fail.
+    pub fn lose(&mut self, alloc: Global, kernel: u32, cause: Loss) -> Result<(), No>
+        requires other { (kernel == 0) ≡ false }
+        requires turn { is_shut self.old.core kernel ≡ false → core.may_post self.old.core ≡ true }
+        ensures ok { OnOk result (IsEntered (posting kernel (event.Lose cause) Nothing) self.old self.new) }
+        ensures no { IfErr result (Refused self.old.core kernel) }
+        ensures err { OnErr result (self.new ≡ self.old) }
+    {
+        if self.is_shut(kernel) {
+            return Err(No::Closed);
+        }
+        self.journal.reserve()?;
+        items_that_run_are_run();
+        self.state.lose(alloc, kernel, self.terms)?;
+        let event = Event::Lose(cause);
+        self.journal.add(Posted {
+            entry: Entry { kernel, event },
+            handed: Handed::Nothing,
+        });
+        Ok(())
+    }
+
     /// A kernel, in an attempt or with 0 the master outside a wait, prints a line.
     pub fn print(&mut self, alloc: Global, kernel: u32, text: Text) -> Result<(), No>
         requires turn { MayPost self.old.core kernel }

@@ -7,6 +7,7 @@ mod answers;
 mod book;
 mod finishing;
 mod ledger;
+mod losing;
 mod state;
 mod waits;
 

@@ -4,15 +4,18 @@ ghost use Rattle.std.specs.Option.{option_copied};
 ghost use Rattle.semantics.specs.Definitions as d;
 ghost use Rattle.journal.specs.declared.event.Event.TheVariants as event;
 ghost use Rattle.journal.specs.declared.item.Status.TheVariants as status;
+ghost use Rattle.journal.specs.declared.loss.Loss.{Loss};
 ghost use Rattle.journal.specs.Places.{is_some};
 ghost use Rattle.journal.specs.Entry.{Nothing, Given, Lent};
 ghost use Rattle.journal.specs.Core as core;
 ghost use Rattle.master_core.specs.Posting.{posting, Makes};
 ghost use Rattle.master_core.specs.Joined.{item_of, bundle_of};
 ghost use Rattle.master_core.specs.Waits.{IsTaken};
+ghost use Rattle.master_core.specs.Losing.{IsOn};
 
 use crate::answers::{EnterNo, Taken};
 use crate::finishing::{drop_items, finish};
+use crate::losing::{Terms, finished_after, left_value};
 use crit_locks::Locks;
 use dist_bundle::Bundle;
 use eval_queue::Queue;
@@ -140,6 +143,25 @@ impl State {
     {
         finish(&mut self.queue, &mut self.finished, kernel, id, value)?;
         self.attempts[kernel as usize] = None;
+        self.begun = has_begun(self.begun, kernel);
+        Ok(())
+    }
+
+    /// A kernel is lost. Who runs an item is who has the attempt at it.
+    pub fn lose(&mut self, alloc: Global, kernel: u32, terms: Terms) -> Result<(), AllocError>
+        requires open { self.old.closed ≡ false }
+        requires lives { core.lives self.old kernel ≡ true }
+        requires runs { (id : ℕ) → core.status_of self.old id ≡ Some (status.Running kernel) → core.attempt_of self.old kernel ≡ Some id }
+        ensures ok { OnOk result ((set : core.Setup) (cause : Loss) → IsOn set terms → self.new ≡ core.effect set self.old (posting kernel (event.Lose cause) Nothing)) }
+        ensures err { OnErr result (self.new ≡ self.old) }
+    {
+        let attempt = self.attempts[kernel as usize];
+        let left = left_value(alloc, &self.queue, attempt, kernel, terms)?;
+        let before = self.finished.as_slice();
+        let finished = finished_after(alloc, &self.queue, before, kernel, terms.recovery)?;
+        self.kernels.lose(&mut self.queue, &mut self.locks, kernel, terms.failed, left);
+        self.attempts[kernel as usize] = None;
+        self.finished = finished;
         self.begun = has_begun(self.begun, kernel);
         Ok(())
     }

@@ -12,7 +12,7 @@ use Rattle.master_core.proofs.book.Book.end_wait.Goals as goal
 
 pub invariant_of-self-2 : goal.invariant_of-self-2
 invariant_of-self-2 c =
-    let set = setup_of (opening_with c.self.inside.kernels c.self.inside.limits c.self.inside.names.value.texts c.self.inside.recovery) in
+    let set = setup_of (opening_with c.self.inside.kernels c.self.inside.limits c.self.inside.names.value.texts c.self.inside.terms.recovery) in
     let p = posting 0 event.Resume Nothing in
     let more : c.add.new.self.posted ≡ c.self.inside.journal.posted ++ p ∷ [] = search rules in
     let waits : is_some c.self.inside.state.wait ≡ true = ap (λ b. is_some b.core.wait) c.self.view_is ∙ c.requires.waits in
@@ -23,5 +23,5 @@ invariant_of-self-2 c =
 
 pub returns-in-Some-clause-no : goal.returns-in-Some-clause-no
 returns-in-Some-clause-no c =
-    let set = setup_of (opening_with c.self.inside.kernels c.self.inside.limits c.self.inside.names.value.texts c.self.inside.recovery) in
+    let set = setup_of (opening_with c.self.inside.kernels c.self.inside.limits c.self.inside.names.value.texts c.self.inside.terms.recovery) in
     subst (λ b. (condition_holds (setup_of b.opening).names b.core ≡ false) × IsUnmet b.core c.in-Some.unmet) c.self.view_is (c.in-Some.ensures set.names c.self.invariant.named)

@@ -11,7 +11,7 @@ use Rattle.master_core.proofs.book.Book.enter.Goals as goal
 
 pub invariant_of-self-2 : goal.invariant_of-self-2
 invariant_of-self-2 c =
-    let set = setup_of (opening_with c.self.inside.kernels c.self.inside.limits c.self.inside.names.value.texts c.self.inside.recovery) in
+    let set = setup_of (opening_with c.self.inside.kernels c.self.inside.limits c.self.inside.names.value.texts c.self.inside.terms.recovery) in
     let p = posting c.args.kernel (event.Enter c.args.locks.now) Nothing in
     let more : c.add.new.self.posted ≡ c.self.inside.journal.posted ++ p ∷ [] = search rules in
     let unshut : is_shut c.args.self.now.core c.args.kernel ≡ false = sym c.is_shut.ensures ∙ c.if-is_shut.false in

@@ -10,7 +10,7 @@ use Rattle.master_core.proofs.book.Book.submit.Goals as goal
 
 pub invariant_of-self-2 : goal.invariant_of-self-2
 invariant_of-self-2 c =
-    let set = setup_of (opening_with c.self.inside.kernels c.self.inside.limits c.self.inside.names.value.texts c.self.inside.recovery) in
+    let set = setup_of (opening_with c.self.inside.kernels c.self.inside.limits c.self.inside.names.value.texts c.self.inside.terms.recovery) in
     let id = c.in_ok-id.id in
     let more : c.add.new.self.posted ≡ c.self.inside.journal.posted ++ posting 0 (event.Submit id) (Given c.args.item c.args.bundle) ∷ [] = search rules in
     k.keeps_on _ c.self.inside.journal.posted _ c.self.inside.state _ c.self.inside.defs _ (posting 0 (event.Submit id) (Given c.args.item c.args.bundle)) c.self.invariant
@@ -20,7 +20,7 @@ invariant_of-self-2 c =
 
 pub returns-clause-ok : goal.returns-clause-ok
 returns-clause-ok c =
-    let set = setup_of (opening_with c.self.inside.kernels c.self.inside.limits c.self.inside.names.value.texts c.self.inside.recovery) in
+    let set = setup_of (opening_with c.self.inside.kernels c.self.inside.limits c.self.inside.names.value.texts c.self.inside.terms.recovery) in
     let id = c.in_ok-id.id in
     let more : c.add.new.self.posted ≡ c.self.inside.journal.posted ++ posting 0 (event.Submit id) (Given c.args.item c.args.bundle) ∷ [] = search rules in
     k.entered_viewed c.self.view_is

@@ -10,19 +10,19 @@ use Rattle.master_core.proofs.book.Book.take.Goals as goal
 
 pub taken-requires : goal.taken-requires
 taken-requires c =
-    let set = setup_of (opening_with c.self.inside.kernels c.self.inside.limits c.self.inside.names.value.texts c.self.inside.recovery) in
+    let set = setup_of (opening_with c.self.inside.kernels c.self.inside.limits c.self.inside.names.value.texts c.self.inside.terms.recovery) in
     let first : first_take set c.self.inside.state c.args.kernel ≡ Some c.in-Some.id = search rules in
     k.first_waits c.self.inside.state c.args.kernel c.in-Some.id (k.first_is set c.self.inside.state c.args.kernel c.in-Some.id first)
 
 pub take-requires-clause-waits : goal.take-requires-clause-waits
 take-requires-clause-waits c =
-    let set = setup_of (opening_with c.self.inside.kernels c.self.inside.limits c.self.inside.names.value.texts c.self.inside.recovery) in
+    let set = setup_of (opening_with c.self.inside.kernels c.self.inside.limits c.self.inside.names.value.texts c.self.inside.terms.recovery) in
     let first : first_take set c.self.inside.state c.args.kernel ≡ Some c.in-Some.id = search rules in
     k.first_waits c.self.inside.state c.args.kernel c.in-Some.id (k.first_is set c.self.inside.state c.args.kernel c.in-Some.id first)
 
 pub invariant_of-self-3 : goal.invariant_of-self-3
 invariant_of-self-3 c =
-    let set = setup_of (opening_with c.self.inside.kernels c.self.inside.limits c.self.inside.names.value.texts c.self.inside.recovery) in
+    let set = setup_of (opening_with c.self.inside.kernels c.self.inside.limits c.self.inside.names.value.texts c.self.inside.terms.recovery) in
     let first : first_take set c.self.inside.state c.args.kernel ≡ Some c.in-Some.id = search rules in
     let p = posting c.args.kernel (event.Take c.in-Some.id) Nothing in
     let more : c.add.new.self.posted ≡ c.self.inside.journal.posted ++ p ∷ [] = search rules in
