@@ -1,8 +1,9 @@
 pub mod Programs
 pub mod Runs
 mod ControlRows
-mod ScopeRows
+pub mod ScopeRows
 mod ChangeRows
 mod ModeRows
 pub mod Passes
+pub mod Parts
 mod Examples

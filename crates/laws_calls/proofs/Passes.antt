@@ -114,7 +114,7 @@ module _ (P : Point) where
   marked-fits None next = next
   marked-fits (Some kind) next = moded (λ kernel. next)
 
-  symbol_rules-fits : (o : Option Sym) (e : Tree) {p : Prog} → Fit P p → Fit P (symbol_rules names o e p)
+  pub symbol_rules-fits : (o : Option Sym) (e : Tree) {p : Prog} → Fit P p → Fit P (symbol_rules names o e p)
   symbol_rules-fits None e next = next
   symbol_rules-fits (Some s) e next = look (λ seen. marked-fits seen.shared (try_rules-fits P seen.definition.ups e Done (λ v. done) next))
 
@@ -122,7 +122,7 @@ module _ (P : Point) where
   up_rules-fits [] e next = next
   up_rules-fits (x ∷ xs) e next = symbol_rules-fits (symbol_of x) e (up_rules-fits xs e next)
 
-  row_or_stay-fits : (o : Option Builtin) (s : Sym) (es : List Tree) (e : Tree) {p : Prog} → Fit P p → Fit P (row_or_stay names o s es e p)
+  pub row_or_stay-fits : (o : Option Builtin) (s : Sym) (es : List Tree) (e : Tree) {p : Prog} → Fit P p → Fit P (row_or_stay names o s es e p)
   row_or_stay-fits None s es e stay = stay
   row_or_stay-fits (Some r) s es e stay = unless_access-fits P (symbol s) es e stay (row-fits r es stay)
 
