@@ -183,7 +183,7 @@ module _ {S : Type 0} {step : Step S} {set : Setting} {n : ℕ} where
 
   -- ---- a machine: l is the program at the beginning, p what is left of it before a step, rest what is left after it
 
-  moved : {l p : Prog → Prog} {rest : Prog → Option Tree → Prog} {m : Move} {d d' : Definitions} {u u' : Bool} {i : ℕ} {o : Option (List Sym)} {s z : S} {st : State} →
+  pub moved : {l p : Prog → Prog} {rest : Prog → Option Tree → Prog} {m : Move} {d d' : Definitions} {u u' : Bool} {i : ℕ} {o : Option (List Sym)} {s z : S} {st : State} →
       ((stay : Prog) → Reached step set n (l stay) s st (p stay) (state_at d u i o) z) → ((stay : Prog) → f.Stepped set (p stay) stay d u (Ok m) (rest stay) d' u') → (stay : Prog) →
       Reached step set n (l stay) s st (headed m stay (rest stay)) (state_at d' u' i o) z
   moved {p = p} {d = d} {u = u} {i = i} {o = o} {z = z} a b stay =

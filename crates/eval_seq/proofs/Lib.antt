@@ -12,5 +12,6 @@ pub mod StepLaws
 pub mod SequenceLaws
 pub mod Readiness
 pub mod Locked
+pub mod Coming
 pub mod Telling
 pub mod Among

@@ -11,7 +11,7 @@ use Rattle.semantics.specs.Pass.{marked, built_in}
 use Rattle.semantics.specs.Play.{Setting, State, Play, Evaluator, run, seen, now_used}
 use Rattle.shared_calls.specs.Access.{kind_in, changed}
 use Rattle.shared_calls.specs.Sent.{AccessesAreSent, sent_or as sent_after}
-use Rattle.eval_seq.specs.Outward.{is_item}
+use Rattle.laws_calls.specs.Calls.{is_item}
 use Rattle.eval_seq.specs.Sequence.{Marks, Uses, Sees, Accesses, sent_or}
 
 by_mode : (set : Setting) (ev : Evaluator) (e : Tree) (stay p : Prog) (st : State) (mode : Mode) →

@@ -1,5 +1,5 @@
 -- An outside that faces an evaluation faces what is left of it after each part that goes on.
-use Rattle.std.proofs.Common.{◌≡◌, ◌∙◌, refl, sym, subst, ℕ, Bool, true, false, List, Option, Some, None, Result, Ok, Err, true≢false}
+use Rattle.std.proofs.Common.{◌≡◌, ◌∙◌, refl, sym, ap, subst, ℕ, Bool, true, false, List, Option, Some, None, Result, Ok, Err, true≢false}
 use Rattle.std.specs.Prelude.{pos}
 use Rattle.expr_tree.specs.declared.sym.Sym.{Sym}
 use Rattle.expr_tree.specs.Tree.{Tree, integer}
@@ -8,18 +8,17 @@ use Rattle.name_table.specs.Table.{NameTable}
 use Rattle.semantics.specs.Definitions.{Definitions}
 use Rattle.semantics.specs.Opened.{opens}
 use Rattle.semantics.specs.Pass.{pass}
-use Rattle.semantics.specs.Program.{Prog, Done, Call, Sends, Mode}
+use Rattle.semantics.specs.Program.{Prog, Done, Call, Mode}
 use Rattle.semantics.specs.Play.{Setting, State, End, Value, Stopped, Throwing, Thrown, Quit, Closed, Starved, Replied, Halted, Shut, Lacking, Reply, Play, Over, Calls, run, eval_at}
+use Rattle.builtin_names.specs.Named.{names_in}
 use Rattle.evaluation_steps.specs.declared.Exit.{Exit}
 use Rattle.evaluation_steps.specs.Leads.{Leads, here, called}
 use Rattle.evaluation_steps.specs.Words.{Evaluated, Ran}
 use Rattle.evaluation_steps.proofs.Laws.{went_somewhere}
-use Rattle.machine_steps.specs.Outward.{request_of}
 use Rattle.machine_steps.specs.Steps.{headed}
 use Rattle.machine_steps.specs.declared.moves.Move.{Move}
-use Rattle.machine_steps.specs.declared.outward.Request.{Request}
 use Rattle.eval_seq.specs.declared.machine.Followed.{Followed}
-use Rattle.eval_seq.specs.Outward.{may_come, AfterReply, Faces, Guarded}
+use Rattle.eval_seq.specs.Outward.{AfterReply, Faces, Guarded}
 use Rattle.eval_seq.specs.Ends.{leaves}
 use Rattle.eval_seq.specs.Told.{outcome_of, AfterOutcome, IsClosed, IsThrowing}
 use Rattle.eval_seq.specs.Walks.{Stepped}
@@ -91,12 +90,7 @@ throw_same (over x y p) = y
 improper : {b now : Bool} {v : Tree} {t : State} → Sound true b now (Over (Throwing v) t) → ⊥
 improper (over x y p) = p
 
-pub machine_comes : (mode : Mode) (now : Bool) (request : Request) → may_come mode now (Sends (request_of request)) ≡ true
-machine_comes mode now Request.Count = refl
-machine_comes mode now (Request.Print t) = refl
-machine_comes mode now (Request.Outside e) = refl
-
-pub faces_same : {S : Type 0} {ready : S → Type 0} {mode : S → Mode} {is_open : S → Bool} {m : Mode} {s : S} {a b : Option (List Sym)} → a ≡ b → Faces ready mode is_open m b s → Faces ready mode is_open m a s
+pub faces_same : {S : Type 0} {ready : S → Type 0} {names : S → NameTable} {mode : S → Mode} {is_open : S → Bool} {m : Setting} {s : S} {a b : Option (List Sym)} → a ≡ b → Faces ready names mode is_open m b s → Faces ready names mode is_open m a s
 faces_same e f = rw e f
 
 module _ {S : Type 0} {step : S → Definitions → Call → Reply → Definitions → S → Type 0} {ready : S → Type 0} {names : S → NameTable} {mode : S → Mode} {is_open : S → Bool} where
@@ -118,55 +112,55 @@ module _ {S : Type 0} {step : S → Definitions → Call → Reply → Definitio
       leads_ready {now = opens c r now} l (f r d g.fits) (after (ready _) r (k r d) (λ is. subst (λ x. IsLost (k x d)) (sym is) (one d)) (λ is. subst (λ x. IsLost (k x d)) (sym is) (two d)) g.again)
 
   -- to a value
-  faces_to : {w : Bool} {m : Mode} {v : Tree} {s z : S} {t : Play} (st : State) {st' : State} → Leads (Guarded step ready names mode is_open) s t (Over (Value v) st') z → Sound w (open_in st) (is_open s) t →
-      Faces ready mode is_open m st.open_section s → (Unless t (ready s)) → Faces ready mode is_open m st'.open_section z
-  faces_to st l h f p = record { may = leads_ready l h p; same_mode = leads_mode l ∙ f.same_mode; same_open = sym (open_at (leads_sound l h)) }
+  faces_to : {w : Bool} {m : Setting} {v : Tree} {s z : S} {t : Play} (st : State) {st' : State} → Leads (Guarded step ready names mode is_open) s t (Over (Value v) st') z → Sound w (open_in st) (is_open s) t →
+      Faces ready names mode is_open m st.open_section s → (Unless t (ready s)) → Faces ready names mode is_open m st'.open_section z
+  faces_to st l h f p = record { may = leads_ready l h p; same_names = ap names_in (leads_names l) ∙ f.same_names; same_mode = leads_mode l ∙ f.same_mode; same_open = sym (open_at (leads_sound l h)) }
 
-  pub ready_evaluates : {set : Setting} {m : Mode} {n : ℕ} {e v : Tree} {s z : S} {st st' : State} → Evaluated (Guarded step ready names mode is_open) set n e s st (Ok v) st' z →
-      Faces ready mode is_open m st.open_section s → Faces ready mode is_open m st'.open_section z
+  pub ready_evaluates : {set : Setting} {n : ℕ} {e v : Tree} {s z : S} {st st' : State} → Evaluated (Guarded step ready names mode is_open) set n e s st (Ok v) st' z →
+      Faces ready names mode is_open set st.open_section s → Faces ready names mode is_open set st'.open_section z
   ready_evaluates {set = set} {n = n} {e = e} {s = s} {st = st} a f = faces_to st a.went.by (evaluated_sound set n e st (is_open s) f.same_open) f (unless_any (eval_at set n e st) f.may)
 
-  played_faces : (set : Setting) (n : ℕ) (p : Prog) (st : State) {m : Mode} {v : Tree} {s z : S} {st' : State} → Leads (Guarded step ready names mode is_open) s (run set (eval_at set n) p st) (Over (Value v) st') z →
-      Faces ready mode is_open m st.open_section s → Faces ready mode is_open m st'.open_section z
+  played_faces : (set : Setting) (n : ℕ) (p : Prog) (st : State) {v : Tree} {s z : S} {st' : State} → Leads (Guarded step ready names mode is_open) s (run set (eval_at set n) p st) (Over (Value v) st') z →
+      Faces ready names mode is_open set st.open_section s → Faces ready names mode is_open set st'.open_section z
   played_faces set n p st {s = s} l f = faces_to st l (run_sound set n p st (is_open s) f.same_open) f (unless_any (run set (eval_at set n) p st) f.may)
 
-  pub ready_runs : {A : Type 0} {set : Setting} {m : Mode} {n : ℕ} {p : (A → Prog) → Prog} {v : A} {s z : S} {st st' : State} → Ran (Guarded step ready names mode is_open) set n p s st (Ok v) st' z →
-      Faces ready mode is_open m st.open_section s → Faces ready mode is_open m st'.open_section z
+  pub ready_runs : {A : Type 0} {set : Setting} {n : ℕ} {p : (A → Prog) → Prog} {v : A} {s z : S} {st st' : State} → Ran (Guarded step ready names mode is_open) set n p s st (Ok v) st' z →
+      Faces ready names mode is_open set st.open_section s → Faces ready names mode is_open set st'.open_section z
   ready_runs {set = set} {n = n} {p = p} {st = st} a f = played_faces set n (p (λ x. Done (integer (pos 0)))) st (a.went (λ x. Done (integer (pos 0)))).by f
 
-  pub ready_turned : {set : Setting} {m : Mode} {n i : ℕ} {e v : Tree} {s z : S} {st st' : State} → Turned (Guarded step ready names mode is_open) set n i e s st (Ok (Some v)) st' z →
-      Faces ready mode is_open m st.open_section s → Faces ready mode is_open m st'.open_section z
-  ready_turned {set = set} {m = m} {n = n} {e = e} {z = z} {st = st} a f = subst (λ o. Faces ready mode is_open m o z) a.by.1.1.1.1 (played_faces set n (pass set.names e) st a.by.1.1.1.0.went.by f)
+  pub ready_turned : {set : Setting} {n i : ℕ} {e v : Tree} {s z : S} {st st' : State} → Turned (Guarded step ready names mode is_open) set n i e s st (Ok (Some v)) st' z →
+      Faces ready names mode is_open set st.open_section s → Faces ready names mode is_open set st'.open_section z
+  ready_turned {set = set} {n = n} {e = e} {z = z} {st = st} a f = subst (λ o. Faces ready names mode is_open set o z) a.by.1.1.1.1 (played_faces set n (pass set.names e) st a.by.1.1.1.0.went.by f)
 
-  pub ready_stepped : {set : Setting} {m : Mode} {n : ℕ} {p : Prog → Prog} {s z : S} {st st' : State} → Stepped (Guarded step ready names mode is_open) set n p s st (Ok None) st' z →
-      Faces ready mode is_open m st.open_section s → Faces ready mode is_open m st'.open_section z
+  pub ready_stepped : {set : Setting} {n : ℕ} {p : Prog → Prog} {s z : S} {st st' : State} → Stepped (Guarded step ready names mode is_open) set n p s st (Ok None) st' z →
+      Faces ready names mode is_open set st.open_section s → Faces ready names mode is_open set st'.open_section z
   ready_stepped {set = set} {n = n} {p = p} {st = st} a f = played_faces set n (p (Done (integer (pos 0)))) st (a.by (Done (integer (pos 0)))).on f
 
-  pub ready_follows : {set : Setting} {m : Mode} {n : ℕ} {move : Move} {answer : Option Tree} {s z : S} {st st' : State} → Follows (Guarded step ready names mode is_open) set n move s st (Ok (Followed.Goes answer)) st' z →
-      Faces ready mode is_open m st.open_section s → Faces ready mode is_open m st'.open_section z
+  pub ready_follows : {set : Setting} {n : ℕ} {move : Move} {answer : Option Tree} {s z : S} {st st' : State} → Follows (Guarded step ready names mode is_open) set n move s st (Ok (Followed.Goes answer)) st' z →
+      Faces ready names mode is_open set st.open_section s → Faces ready names mode is_open set st'.open_section z
   ready_follows {set = set} {n = n} {move = move} {st = st} a f = played_faces set n (headed move (Done (integer (pos 0))) (λ _. Done (integer (pos 0)))) st (a.by (Done (integer (pos 0))) (λ _. Done (integer (pos 0)))).on f
 
   -- ---- ends after which the outside may be called again
 
-  pub faces_left : (r : Result Tree Exit) {set : Setting} {m : Mode} {n : ℕ} {e : Tree} {s z : S} {st st' : State} → leaves r ≡ true → Evaluated (Guarded step ready names mode is_open) set n e s st r st' z →
-      Faces ready mode is_open m st.open_section s → Faces ready mode is_open m st.open_section z
+  pub faces_left : (r : Result Tree Exit) {set : Setting} {n : ℕ} {e : Tree} {s z : S} {st st' : State} → leaves r ≡ true → Evaluated (Guarded step ready names mode is_open) set n e s st r st' z →
+      Faces ready names mode is_open set st.open_section s → Faces ready names mode is_open set st.open_section z
   faces_left (Ok v) {set = set} {n = n} {e = e} {s = s} {st = st} is a f =
       let h = leads_sound a.went.by (evaluated_sound set n e st (is_open s) f.same_open) in
-      record { may = leads_ready a.went.by (evaluated_sound set n e st (is_open s) f.same_open) (unless_any (eval_at set n e st) f.may); same_mode = leads_mode a.went.by ∙ f.same_mode; same_open = value_same h }
+      record { may = leads_ready a.went.by (evaluated_sound set n e st (is_open s) f.same_open) (unless_any (eval_at set n e st) f.may); same_names = ap names_in (leads_names a.went.by) ∙ f.same_names; same_mode = leads_mode a.went.by ∙ f.same_mode; same_open = value_same h }
   faces_left (Err (Exit.Stopped c)) {set = set} {n = n} {e = e} {s = s} {st = st} is a f =
       let h = leads_sound a.went.by (evaluated_sound set n e st (is_open s) f.same_open) in
-      record { may = leads_ready a.went.by (evaluated_sound set n e st (is_open s) f.same_open) (unless_any (eval_at set n e st) f.may); same_mode = leads_mode a.went.by ∙ f.same_mode; same_open = stop_same h }
+      record { may = leads_ready a.went.by (evaluated_sound set n e st (is_open s) f.same_open) (unless_any (eval_at set n e st) f.may); same_names = ap names_in (leads_names a.went.by) ∙ f.same_names; same_mode = leads_mode a.went.by ∙ f.same_mode; same_open = stop_same h }
   faces_left (Err (Exit.Throwing v)) is a f = absurd (true≢false (sym is))
   faces_left (Err (Exit.Thrown v)) {set = set} {n = n} {e = e} {s = s} {st = st} is a f =
       let h = leads_sound a.went.by (evaluated_sound set n e st (is_open s) f.same_open) in
-      record { may = leads_ready a.went.by (evaluated_sound set n e st (is_open s) f.same_open) (unless_any (eval_at set n e st) f.may); same_mode = leads_mode a.went.by ∙ f.same_mode; same_open = throw_same h }
+      record { may = leads_ready a.went.by (evaluated_sound set n e st (is_open s) f.same_open) (unless_any (eval_at set n e st) f.may); same_names = ap names_in (leads_names a.went.by) ∙ f.same_names; same_mode = leads_mode a.went.by ∙ f.same_mode; same_open = throw_same h }
   faces_left (Err Exit.Quit) is a f = absurd (true≢false (sym is))
   faces_left (Err Exit.Closed) is a f = absurd (true≢false (sym is))
   faces_left (Err Exit.NoMemory) is a f = absurd (true≢false (sym is))
 
   -- an evaluation throws nothing that it has not judged
-  pub never_throwing : (r : Result Tree Exit) {set : Setting} {m : Mode} {n : ℕ} {e : Tree} {s z : S} {st st' : State} → Evaluated (Guarded step ready names mode is_open) set n e s st r st' z →
-      Faces ready mode is_open m st.open_section s → IsThrowing r → ⊥
+  pub never_throwing : (r : Result Tree Exit) {set : Setting} {n : ℕ} {e : Tree} {s z : S} {st st' : State} → Evaluated (Guarded step ready names mode is_open) set n e s st r st' z →
+      Faces ready names mode is_open set st.open_section s → IsThrowing r → ⊥
   never_throwing (Ok v) a f h = h
   never_throwing (Err (Exit.Stopped c)) a f h = h
   never_throwing (Err (Exit.Throwing v)) {set = set} {n = n} {e = e} {s = s} {st = st} a f h = improper (leads_sound a.went.by (evaluated_sound set n e st (is_open s) f.same_open))
@@ -176,8 +170,8 @@ module _ {S : Type 0} {step : S → Definitions → Call → Reply → Definitio
   never_throwing (Err Exit.NoMemory) a f h = h
 
   -- what a whole evaluation leaves
-  pub ends_ready : (r : Result Tree Exit) {set : Setting} {m : Mode} {n : ℕ} {e : Tree} {s z : S} {st st' : State} → Evaluated (Guarded step ready names mode is_open) set n e s st r st' z →
-      Faces ready mode is_open m st.open_section s → AfterOutcome (outcome_of r) (ready z)
+  pub ends_ready : (r : Result Tree Exit) {set : Setting} {n : ℕ} {e : Tree} {s z : S} {st st' : State} → Evaluated (Guarded step ready names mode is_open) set n e s st r st' z →
+      Faces ready names mode is_open set st.open_section s → AfterOutcome (outcome_of r) (ready z)
   ends_ready (Ok v) {set = set} {n = n} {e = e} {s = s} {st = st} a f = leads_ready a.went.by (evaluated_sound set n e st (is_open s) f.same_open) (unless_any (eval_at set n e st) f.may)
   ends_ready (Err (Exit.Stopped c)) {set = set} {n = n} {e = e} {s = s} {st = st} a f = leads_ready a.went.by (evaluated_sound set n e st (is_open s) f.same_open) (unless_any (eval_at set n e st) f.may)
   ends_ready (Err (Exit.Throwing v)) a f = tt
@@ -186,8 +180,8 @@ module _ {S : Type 0} {step : S → Definitions → Call → Reply → Definitio
   ends_ready (Err Exit.Closed) a f = tt
   ends_ready (Err Exit.NoMemory) a f = tt
 
-  pub ends_closed : (r : Result Tree Exit) {set : Setting} {m : Mode} {n : ℕ} {e : Tree} {s z : S} {st st' : State} → open_in st ≡ false → Evaluated (Guarded step ready names mode is_open) set n e s st r st' z →
-      Faces ready mode is_open m st.open_section s → IsClosed (outcome_of r) st' (is_open z)
+  pub ends_closed : (r : Result Tree Exit) {set : Setting} {n : ℕ} {e : Tree} {s z : S} {st st' : State} → open_in st ≡ false → Evaluated (Guarded step ready names mode is_open) set n e s st r st' z →
+      Faces ready names mode is_open set st.open_section s → IsClosed (outcome_of r) st' (is_open z)
   ends_closed (Ok v) {set = set} {n = n} {e = e} {s = s} {st = st} none a f =
       let h = leads_sound a.went.by (evaluated_sound set n e st (is_open s) f.same_open) in (sym (state_open h) ∙ (still_open h ∙ none), still_open h ∙ none)
   ends_closed (Err (Exit.Stopped c)) {set = set} {n = n} {e = e} {s = s} {st = st} none a f =

@@ -4,17 +4,22 @@
 --     Opens                 the same of a step that neither asks nor reads anything before it begins
 --     OpensFrom             the same of one that asks whether a section is open, or looks at mode and kernel
 --     started_as            a machine as a beginning
+--     Comes                 each call of a step may come where it stands, with something behind it
+--     may_enter, MayFollow  a section may be entered; what a machine asks for may come
 --     Follows               what came of a move: what is left of the machine's program, or its end
 --     Fewer                 where the machine goes on, fewer of its questions are left
-use Rattle.std.specs.Prelude.{◌≡◌, ◌⊎◌, ◌<◌, ℕ, Option, Some, None, Result, Ok, Err}
+use Rattle.std.specs.Prelude.{◌≡◌, ◌⊎◌, ◌<◌, ℕ, Bool, true, false, is_some, List, Option, Some, None, Result, Ok, Err}
+use Rattle.expr_tree.specs.declared.sym.Sym.{Sym}
 use Rattle.expr_tree.specs.Tree.{Tree}
 use Rattle.semantics.specs.Names.{Names}
-use Rattle.semantics.specs.Program.{Prog, Done, Stops}
-use Rattle.semantics.specs.Play.{Setting, State, Evaluator, run, too_large}
+use Rattle.semantics.specs.Program.{Prog, Done, Stops, Sends, Enter}
+use Rattle.semantics.specs.Play.{Setting, State, Evaluator, run, eval_at, too_large}
+use Rattle.laws_calls.specs.Calls.{may_come, Fits}
 use Rattle.evaluation_steps.specs.declared.Exit.{Exit}
 use Rattle.evaluation_steps.specs.Leads.{Step}
 use Rattle.evaluation_steps.specs.Words.{Reached}
 use Rattle.machine_steps.specs.Steps.{headed, Falls}
+use Rattle.machine_steps.specs.Outward.{request_of}
 use Rattle.machine_steps.specs.declared.moves.Move.{Move}
 use Rattle.machine_rows.specs.Machines.{left}
 use Rattle.machine_rows.specs.declared.machine.Machine.{Machine}
@@ -63,6 +68,27 @@ abbrev pub started_as : {E : Type 0} → Result (Option Machine) E → Result St
 started_as (Ok (Some machine)) = Ok (Start.Machine machine)
 started_as (Ok None) = Ok (Start.Given None)
 started_as (Err e) = Err Exit.NoMemory
+
+-- nothing is said of how that ends
+pub record Comes (set : Setting) (n : ℕ) (p : Prog → Prog) (st : State) : Type 0 where
+  pub rest : Prog
+  pub fit : Fits set.names set.mode false (is_some st.open_section) (run set (eval_at set n) (p rest) st)
+
+abbrev pub may_enter : Setting → List Sym → Bool
+may_enter set locks = may_come set.names set.mode false (Enter locks)
+
+-- an inner section is not entered
+abbrev pub MayFollow : Setting → Option (List Sym) → Move → Type 0
+MayFollow set now (Move.Ask e turn) = Unit {0}
+MayFollow set now (Move.Within ls e turn) = Unit {0}
+MayFollow set now (Move.Catch e) = Unit {0}
+MayFollow set now (Move.Section locks e) = now ≡ None → may_enter set locks ≡ true
+MayFollow set now (Move.Call request) = may_come set.names set.mode (is_some now) (Sends (request_of request)) ≡ true
+MayFollow set now Move.Turn = Unit {0}
+MayFollow set now (Move.Done e) = Unit {0}
+MayFollow set now Move.Stays = Unit {0}
+MayFollow set now (Move.Throw e) = Unit {0}
+MayFollow set now Move.Quit = Unit {0}
 
 abbrev pub Fewer : Result Followed Exit → ℕ → (Option Tree → ℕ) → Type 0
 Fewer (Ok (Followed.Goes answer)) before after = after answer < before

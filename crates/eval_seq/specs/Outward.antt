@@ -1,34 +1,17 @@
 -- The outside of an evaluation.
---     may_come              which calls come in a mode, where a section is open or not
 --     may_reply             a stop answers a form of the mode table alone
 --     AfterReply            what holds after a value and a stop
 --     opens_after           whether a section is open after a value
 --     Guarded               a step of an outside that keeps what it tells of itself
---     Faces                 an outside that may be called, and an evaluation of the same mode and with the same section open
-use Rattle.std.specs.Prelude.{◌≡◌, Bool, true, false, not, is_some, List, Option}
+--     Faces                 an outside that may be called, and an evaluation by the same names, in the same mode and with the same section open
+use Rattle.std.specs.Prelude.{◌≡◌, Bool, true, false, is_some, List, Option}
 use Rattle.expr_tree.specs.declared.sym.Sym.{Sym}
 use Rattle.name_table.specs.Table.{NameTable}
 use Rattle.semantics.specs.Definitions.{Definitions}
 use Rattle.semantics.specs.Opened.{opens}
-use Rattle.semantics.specs.Program.{Mode, Cell, Item, Service, Request, Access, Count, Print, Outside, Call, Sends, Enter, Leave}
-use Rattle.semantics.specs.Play.{Reply, Replied, Halted, Shut, Lacking}
-
-abbrev pub is_item : Mode → Bool
-is_item Item = true
-is_item Cell = false
-is_item Service = false
-
-abbrev pub may_send : Mode → Request → Bool
-may_send mode (Access e) = is_item mode
-may_send mode Count = true
-may_send mode (Print t) = true
-may_send mode (Outside e) = true
-
--- an access comes in an item alone; Enter comes where no section is open, Leave where one is
-abbrev pub may_come : Mode → Bool → Call → Bool
-may_come mode now (Sends request) = may_send mode request
-may_come mode now (Enter locks) = not now
-may_come mode now Leave = now
+use Rattle.semantics.specs.Program.{Mode, Access, Count, Print, Outside, Call, Sends, Enter, Leave}
+use Rattle.semantics.specs.Play.{Setting, Reply, Replied, Halted, Shut, Lacking}
+use Rattle.builtin_names.specs.Named.{names_in}
 
 abbrev pub is_form : Call → Bool
 is_form (Sends (Access e)) = false
@@ -65,8 +48,9 @@ pub record Guarded {S : Type 0} (step : S → Definitions → Call → Reply →
   pub same_mode : mode m ≡ mode s
   pub follows : is_open m ≡ opens c r (is_open s)
 
--- of an evaluation in this mode and with this section open
-pub record Faces {S : Type 0} (ready : S → Type 0) (mode : S → Mode) (is_open : S → Bool) (evaluated_in : Mode) (open_section : Option (List Sym)) (s : S) : Type 0 where
+-- of an evaluation with this section open
+pub record Faces {S : Type 0} (ready : S → Type 0) (names : S → NameTable) (mode : S → Mode) (is_open : S → Bool) (set : Setting) (open_section : Option (List Sym)) (s : S) : Type 0 where
   pub may : ready s
-  pub same_mode : mode s ≡ evaluated_in
+  pub same_names : names_in (names s) ≡ set.names
+  pub same_mode : mode s ≡ set.mode
   pub same_open : is_open s ≡ is_some open_section

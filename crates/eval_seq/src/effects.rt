@@ -1,11 +1,13 @@
 //! What the evaluator does besides computing.
 ghost use Rattle.std.specs.Prelude.{◌≡◌, true, IfOk};
 ghost use Rattle.expr_tree.specs.Tree.{call};
+ghost use Rattle.laws_calls.specs.Calls.{may_come};
+ghost use Rattle.builtin_names.specs.Named.{names_in};
 ghost use Rattle.evaluation_steps.specs.Stopping.{AreBounded};
 ghost use Rattle.evaluation_steps.specs.Words.{Called, Counted, Fits};
 ghost use Rattle.machine_steps.specs.Outward.{call_of};
 ghost use Rattle.machine_steps.specs.Setup.{state_of};
-ghost use Rattle.eval_seq.specs.Outward.{may_come, opens_after, Guarded};
+ghost use Rattle.eval_seq.specs.Outward.{opens_after, Guarded};
 
 use crate::outward::Upcall;
 use evaluation_steps::{Exit, Halt, fits};
@@ -19,10 +21,11 @@ pub(crate) fn outward<U: Upcall>(
     want: Want,
 ) -> Result<Expr, Exit>
     requires ready { U.ready up.old }
-    requires comes { may_come (U.mode up.old) (U.is_open up.old) (call_of want) ≡ true }
+    requires comes { may_come (names_in (U.names up.old)) (U.mode up.old) (U.is_open up.old) (call_of want) ≡ true }
     ensures called { Called (Guarded U.step U.ready U.names U.mode U.is_open) (call_of want) up.old (state_of state.old) result (state_of state.new) up.new }
     ensures rest { state.new ≡ record state.old { defs = state.new.defs } }
     ensures ready { IfOk result (λ _. U.ready up.new) }
+    ensures names { U.names up.new ≡ U.names up.old }
     ensures mode { U.mode up.new ≡ U.mode up.old }
     ensures is_open { IfOk result (λ _. U.is_open up.new ≡ opens_after (call_of want) (U.is_open up.old)) }
 {

@@ -1,5 +1,5 @@
 //! Evaluating: a cycle of functions, of which each says that the evaluation went on from a program to its end.
-ghost use Rattle.std.specs.Prelude.{◌≡◌, None, Some};
+ghost use Rattle.std.specs.Prelude.{◌≡◌, true, None, Some};
 ghost use Rattle.expr_tree.specs.Shapes.{symbol_of};
 ghost use Rattle.expr_tree.specs.Tree.{call};
 ghost use Rattle.semantics.specs.Pass as p;
@@ -14,7 +14,7 @@ ghost use Rattle.eval_seq.specs.Outward.{Faces, Guarded};
 ghost use Rattle.eval_seq.specs.Setup.{names_under, setting_in};
 ghost use Rattle.eval_seq.specs.Walks.{or_itself, Judged, PassOf, Stepped};
 ghost use Rattle.eval_seq.specs.declared.machine.Start.{Start};
-ghost use Rattle.eval_seq.specs.Driven.{driven, Follows};
+ghost use Rattle.eval_seq.specs.Driven.{driven, may_enter, Comes, Follows, MayFollow};
 ghost use Rattle.eval_seq.specs.Sequence.{last_of, one_asked, evaluated, after_values, values_in, values_of, unless_held, Turned, IsWithin, IsSettled};
 
 use crate::assemble::{Assembled, Spliced, assemble, listed};
@@ -45,7 +45,7 @@ pub(crate) fn evaluate<U: Upcall>(
     up: &mut U,
     e: &Expr,
 ) -> Result<Option<Expr>, Exit>
-    requires { Faces U.ready U.mode U.is_open (setting_in room).mode state.old.open_section up.old }
+    requires { Faces U.ready U.names U.mode U.is_open (setting_in room) state.old.open_section up.old }
     ensures { Evaluated (Guarded U.step U.ready U.names U.mode U.is_open) (setting_in room.entry) room.entry.left e.now up.old (state_of state.old) (or_itself e.now result) (state_of state.new) up.new }
 {
     if room.left == 0 {
@@ -66,7 +66,7 @@ fn settle<U: Upcall>(
     up: &mut U,
     e: &Expr,
 ) -> Result<Option<Expr>, Exit>
-    requires { Faces U.ready U.mode U.is_open (setting_in room).mode state.old.open_section up.old }
+    requires { Faces U.ready U.names U.mode U.is_open (setting_in room) state.old.open_section up.old }
     ensures { Settled (Guarded U.step U.ready U.names U.mode U.is_open) (setting_in room.entry) room.entry.left (setting_in room.entry).limits.iteration e.now up.old (state_of state.old) (or_itself e.now result) (state_of state.new) up.new }
 {
     let changes = room.scene.limits.iteration;
@@ -86,7 +86,7 @@ fn settle_rest<U: Upcall>(
     changes: u32,
     e: Expr,
 ) -> Result<Expr, Exit>
-    requires { Faces U.ready U.mode U.is_open (setting_in room).mode state.old.open_section up.old }
+    requires { Faces U.ready U.names U.mode U.is_open (setting_in room) state.old.open_section up.old }
     ensures { Settled (Guarded U.step U.ready U.names U.mode U.is_open) (setting_in room.entry) room.entry.left changes e up.old (state_of state.old) result (state_of state.new) up.new }
 {
     let mut e = e;
@@ -109,7 +109,7 @@ fn turn<U: Upcall>(
     changes: u32,
     e: &Expr,
 ) -> Result<Option<Expr>, Exit>
-    requires { Faces U.ready U.mode U.is_open (setting_in room).mode state.old.open_section up.old }
+    requires { Faces U.ready U.names U.mode U.is_open (setting_in room) state.old.open_section up.old }
     ensures { Turned (Guarded U.step U.ready U.names U.mode U.is_open) (setting_in room.entry) room.entry.left changes e.now up.old (state_of state.old) result (state_of state.new) up.new }
 {
     let Some(value) = pass_or_throw(room, state, up, changes, e)? else {
@@ -136,7 +136,7 @@ fn pass_or_throw<U: Upcall>(
     changes: u32,
     e: &Expr,
 ) -> Result<Option<Expr>, Exit>
-    requires { Faces U.ready U.mode U.is_open (setting_in room).mode state.old.open_section up.old }
+    requires { Faces U.ready U.names U.mode U.is_open (setting_in room) state.old.open_section up.old }
     ensures { Judged (Guarded U.step U.ready U.names U.mode U.is_open) (setting_in room.entry) room.entry.left changes e.now up.old (state_of state.old) (or_itself e.now result) (state_of state.new) up.new }
 {
     match pass(room, state, up, e) {
@@ -162,7 +162,7 @@ fn pass<U: Upcall>(
     up: &mut U,
     e: &Expr,
 ) -> Result<Option<Expr>, Exit>
-    requires { Faces U.ready U.mode U.is_open (setting_in room).mode state.old.open_section up.old }
+    requires { Faces U.ready U.names U.mode U.is_open (setting_in room) state.old.open_section up.old }
     ensures { PassOf (Guarded U.step U.ready U.names U.mode U.is_open) (setting_in room.entry) room.entry.left (p.pass (names_under room.entry) e.now) up.old (state_of state.old) (or_itself e.now result) (state_of state.new) up.new }
 {
     match e.node() {
@@ -183,7 +183,7 @@ fn normal<U: Upcall>(
     head: &Expr,
     items: &Exprs,
 ) -> Result<Option<Expr>, Exit>
-    requires faces { Faces U.ready U.mode U.is_open (setting_in room).mode state.old.open_section up.old }
+    requires faces { Faces U.ready U.names U.mode U.is_open (setting_in room) state.old.open_section up.old }
     requires whole { whole.now ≡ call head.now items.now }
     ensures { PassOf (Guarded U.step U.ready U.names U.mode U.is_open) (setting_in room.entry) room.entry.left (a.first_steps (names_under room.entry) head.now items.now (p.later_steps (names_under room.entry))) up.old (state_of state.old) (or_itself whole.now result) (state_of state.new) up.new }
 {
@@ -205,7 +205,7 @@ fn values<U: Upcall>(
     head: &Expr,
     items: &[Expr],
 ) -> Result<Values, Exit>
-    requires { Faces U.ready U.mode U.is_open (setting_in room).mode state.old.open_section up.old }
+    requires { Faces U.ready U.names U.mode U.is_open (setting_in room) state.old.open_section up.old }
     ensures { Ran (Guarded U.step U.ready U.names U.mode U.is_open) (setting_in room.entry) room.entry.left (evaluated (names_under room.entry) head.now items.now) up.old (state_of state.old) (values_of head.now items.now result) (state_of state.new) up.new }
 {
     let new = evaluate(room, state, up, head)?;
@@ -226,7 +226,7 @@ pub(crate) fn value_of<U: Upcall>(
     up: &mut U,
     e: &Expr,
 ) -> Result<Expr, Exit>
-    requires { Faces U.ready U.mode U.is_open (setting_in room).mode state.old.open_section up.old }
+    requires { Faces U.ready U.names U.mode U.is_open (setting_in room) state.old.open_section up.old }
     ensures { Evaluated (Guarded U.step U.ready U.names U.mode U.is_open) (setting_in room.entry) room.entry.left e.now up.old (state_of state.old) result (state_of state.new) up.new }
 {
     match evaluate(room, state, up, e)? {
@@ -244,7 +244,7 @@ fn elements<U: Upcall>(
     attrs: &Attrs,
     items: &[Expr],
 ) -> Result<Option<Exprs>, Exit>
-    requires { Faces U.ready U.mode U.is_open (setting_in room).mode state.old.open_section up.old }
+    requires { Faces U.ready U.names U.mode U.is_open (setting_in room) state.old.open_section up.old }
     ensures { Ran (Guarded U.step U.ready U.names U.mode U.is_open) (setting_in room.entry) room.entry.left (a.ask_items (names_under room.entry) (attributes_in attrs.now) items.now) up.old (state_of state.old) (or_itself items.now result) (state_of state.new) up.new }
 {
     let mut held = holds_first(attrs);
@@ -268,7 +268,7 @@ fn element<U: Upcall>(
     held: bool,
     item: &Expr,
 ) -> Result<Option<Expr>, Exit>
-    requires { Faces U.ready U.mode U.is_open (setting_in room).mode state.old.open_section up.old }
+    requires { Faces U.ready U.names U.mode U.is_open (setting_in room) state.old.open_section up.old }
     ensures { Ran (Guarded U.step U.ready U.names U.mode U.is_open) (setting_in room.entry) room.entry.left (one_asked (names_under room.entry) (attributes_in attrs.now) held item.now) up.old (state_of state.old) (or_itself item.now result) (state_of state.new) up.new }
 {
     if !is_asked(room.scene.names, attrs, held, item) {
@@ -289,7 +289,7 @@ fn settled<U: Upcall>(
     head: &Expr,
     items: &Exprs,
 ) -> Result<Option<Expr>, Exit>
-    requires faces { Faces U.ready U.mode U.is_open (setting_in room).mode state.old.open_section up.old }
+    requires faces { Faces U.ready U.names U.mode U.is_open (setting_in room) state.old.open_section up.old }
     requires whole { whole.now ≡ call head.now items.now }
     requires settled { IsSettled (names_under room) head.now (attributes_in attrs.now) items.now }
     ensures { PassOf (Guarded U.step U.ready U.names U.mode U.is_open) (setting_in room.entry) room.entry.left (after_values (names_under room.entry) (head.now, attributes_in attrs.now, items.now)) up.old (state_of state.old) (or_itself whole.now result) (state_of state.new) up.new }
@@ -320,7 +320,7 @@ fn changed<U: Upcall>(
     head: &Expr,
     items: &[Expr],
 ) -> Result<Expr, Exit>
-    requires { Faces U.ready U.mode U.is_open (setting_in room).mode state.old.open_section up.old }
+    requires { Faces U.ready U.names U.mode U.is_open (setting_in room) state.old.open_section up.old }
     ensures { PassOf (Guarded U.step U.ready U.names U.mode U.is_open) (setting_in room.entry) room.entry.left (after_values (names_under room.entry) (values_in head.now items.now values)) up.old (state_of state.old) result (state_of state.new) up.new }
 {
     let Values {
@@ -343,7 +343,7 @@ fn later<U: Upcall>(
     up: &mut U,
     first: Spliced,
 ) -> Result<Expr, Exit>
-    requires faces { Faces U.ready U.mode U.is_open (setting_in room).mode state.old.open_section up.old }
+    requires faces { Faces U.ready U.names U.mode U.is_open (setting_in room) state.old.open_section up.old }
     requires within { IsWithin first.head first.items }
     ensures { PassOf (Guarded U.step U.ready U.names U.mode U.is_open) (setting_in room.entry) room.entry.left (p.later_steps (names_under room.entry) first.head (attributes_in first.attrs) first.items) up.old (state_of state.old) result (state_of state.new) up.new }
 {
@@ -376,7 +376,7 @@ fn last_steps<U: Upcall>(
     attrs: &Attrs,
     whole: &Expr,
 ) -> Result<Option<Expr>, Exit>
-    requires { Faces U.ready U.mode U.is_open (setting_in room).mode state.old.open_section up.old }
+    requires { Faces U.ready U.names U.mode U.is_open (setting_in room) state.old.open_section up.old }
     ensures { Stepped (Guarded U.step U.ready U.names U.mode U.is_open) (setting_in room.entry) room.entry.left (λ rest. last_of (names_under room.entry) (attributes_in attrs.now) whole.now rest) up.old (state_of state.old) result (state_of state.new) up.new }
 {
     match whole.node() {
@@ -398,7 +398,7 @@ fn call_steps<U: Upcall>(
     head: &Expr,
     items: &Exprs,
 ) -> Result<Option<Expr>, Exit>
-    requires faces { Faces U.ready U.mode U.is_open (setting_in room).mode state.old.open_section up.old }
+    requires faces { Faces U.ready U.names U.mode U.is_open (setting_in room) state.old.open_section up.old }
     requires whole { whole.now ≡ call head.now items.now }
     ensures { Stepped (Guarded U.step U.ready U.names U.mode U.is_open) (setting_in room.entry) room.entry.left (λ rest. p.last_steps (names_under room.entry) (attributes_in attrs.now) items.now whole.now rest head.now) up.old (state_of state.old) result (state_of state.new) up.new }
 {
@@ -418,7 +418,7 @@ fn up_steps<U: Upcall>(
     whole: &Expr,
     items: &Exprs,
 ) -> Result<Option<Expr>, Exit>
-    requires { Faces U.ready U.mode U.is_open (setting_in room).mode state.old.open_section up.old }
+    requires { Faces U.ready U.names U.mode U.is_open (setting_in room) state.old.open_section up.old }
     ensures { Stepped (Guarded U.step U.ready U.names U.mode U.is_open) (setting_in room.entry) room.entry.left (λ rest. unless_held (names_under room.entry) (attributes_in attrs.now) items.now whole.now rest) up.old (state_of state.old) result (state_of state.new) up.new }
 {
     if attrs.hold_all_complete {
@@ -441,7 +441,7 @@ fn element_rules<U: Upcall>(
     whole: &Expr,
     item: &Expr,
 ) -> Result<Option<Expr>, Exit>
-    requires { Faces U.ready U.mode U.is_open (setting_in room).mode state.old.open_section up.old }
+    requires { Faces U.ready U.names U.mode U.is_open (setting_in room) state.old.open_section up.old }
     ensures { Stepped (Guarded U.step U.ready U.names U.mode U.is_open) (setting_in room.entry) room.entry.left (λ rest. p.symbol_rules (names_under room.entry) (symbol_of item.now) whole.now rest) up.old (state_of state.old) result (state_of state.new) up.new }
 {
     match symbol_of(item) {
@@ -459,7 +459,7 @@ fn symbol_rules<U: Upcall>(
     whole: &Expr,
     symbol: Sym,
 ) -> Result<Option<Expr>, Exit>
-    requires { Faces U.ready U.mode U.is_open (setting_in room).mode state.old.open_section up.old }
+    requires { Faces U.ready U.names U.mode U.is_open (setting_in room) state.old.open_section up.old }
     ensures { Stepped (Guarded U.step U.ready U.names U.mode U.is_open) (setting_in room.entry) room.entry.left (λ rest. p.symbol_rules (names_under room.entry) (Some symbol) whole.now rest) up.old (state_of state.old) result (state_of state.new) up.new }
 {
     let rules = up_start(room.scene, state, up, symbol, whole)?;
@@ -476,7 +476,7 @@ fn down_steps<U: Upcall>(
     head: &Expr,
     items: &Exprs,
 ) -> Result<Option<Expr>, Exit>
-    requires faces { Faces U.ready U.mode U.is_open (setting_in room).mode state.old.open_section up.old }
+    requires faces { Faces U.ready U.names U.mode U.is_open (setting_in room) state.old.open_section up.old }
     requires whole { whole.now ≡ call head.now items.now }
     ensures { Stepped (Guarded U.step U.ready U.names U.mode U.is_open) (setting_in room.entry) room.entry.left (λ rest. p.down_rules (names_under room.entry) head.now items.now whole.now rest) up.old (state_of state.old) result (state_of state.new) up.new }
 {
@@ -499,7 +499,8 @@ fn drive<U: Upcall>(
     up: &mut U,
     start: Start,
 ) -> Result<Option<Expr>, Exit>
-    requires { Faces U.ready U.mode U.is_open (setting_in room).mode state.old.open_section up.old }
+    requires faces { Faces U.ready U.names U.mode U.is_open (setting_in room) state.old.open_section up.old }
+    requires comes { Comes (setting_in room) room.left (driven (names_under room) start) (state_of state.old) }
     ensures { Stepped (Guarded U.step U.ready U.names U.mode U.is_open) (setting_in room.entry) room.entry.left (driven (names_under room.entry) start) up.old (state_of state.old) result (state_of state.new) up.new }
 {
     match start {
@@ -516,7 +517,8 @@ fn perform<U: Upcall>(
     up: &mut U,
     machine: Machine,
 ) -> Result<Option<Expr>, Exit>
-    requires { Faces U.ready U.mode U.is_open (setting_in room).mode state.old.open_section up.old }
+    requires faces { Faces U.ready U.names U.mode U.is_open (setting_in room) state.old.open_section up.old }
+    requires comes { Comes (setting_in room) room.left (driven (names_under room) (Start.Machine machine)) (state_of state.old) }
     ensures { Stepped (Guarded U.step U.ready U.names U.mode U.is_open) (setting_in room.entry) room.entry.left (driven (names_under room.entry) (Start.Machine machine)) up.old (state_of state.old) result (state_of state.new) up.new }
 {
     let mut frame = machine;
@@ -538,7 +540,8 @@ fn follow<U: Upcall>(
     up: &mut U,
     next: Move,
 ) -> Result<Followed, Exit>
-    requires { Faces U.ready U.mode U.is_open (setting_in room).mode state.old.open_section up.old }
+    requires faces { Faces U.ready U.names U.mode U.is_open (setting_in room) state.old.open_section up.old }
+    requires comes { MayFollow (setting_in room) state.old.open_section next }
     ensures { Follows (Guarded U.step U.ready U.names U.mode U.is_open) (setting_in room.entry) room.entry.left next up.old (state_of state.old) result (state_of state.new) up.new }
 {
     match next {
@@ -584,7 +587,7 @@ fn value_within<U: Upcall>(
     locals: &Locals,
     e: &Expr,
 ) -> Result<Expr, Exit>
-    requires { Faces U.ready U.mode U.is_open (setting_in room).mode state.old.open_section up.old }
+    requires { Faces U.ready U.names U.mode U.is_open (setting_in room) state.old.open_section up.old }
     ensures { Ran (Guarded U.step U.ready U.names U.mode U.is_open) (setting_in room.entry) room.entry.left (Within (locals_in locals.now) e.now) up.old (state_of state.old) result (state_of state.new) up.new }
 {
     let saved = put_by(room.scene, &mut state.defs, locals)?;
@@ -602,7 +605,8 @@ fn value_locked<U: Upcall>(
     locks: Syms,
     e: &Expr,
 ) -> Result<Expr, Exit>
-    requires { Faces U.ready U.mode U.is_open (setting_in room).mode state.old.open_section up.old }
+    requires faces { Faces U.ready U.names U.mode U.is_open (setting_in room) state.old.open_section up.old }
+    requires comes { state.old.open_section ≡ None → may_enter (setting_in room) locks ≡ true }
     ensures { Ran (Guarded U.step U.ready U.names U.mode U.is_open) (setting_in room.entry) room.entry.left (Section locks e.now) up.old (state_of state.old) result (state_of state.new) up.new }
 {
     let Some(held) = is_held(state, &locks) else {
@@ -623,8 +627,9 @@ fn value_inside<U: Upcall>(
     locks: Syms,
     e: &Expr,
 ) -> Result<Expr, Exit>
-    requires faces { Faces U.ready U.mode U.is_open (setting_in room).mode state.old.open_section up.old }
+    requires faces { Faces U.ready U.names U.mode U.is_open (setting_in room) state.old.open_section up.old }
     requires none { state.old.open_section ≡ None }
+    requires comes { may_enter (setting_in room) locks ≡ true }
     ensures { Ran (Guarded U.step U.ready U.names U.mode U.is_open) (setting_in room.entry) room.entry.left (Section locks e.now) up.old (state_of state.old) result (state_of state.new) up.new }
 {
     let sent = copied(room.scene.alloc, locks.as_slice())?;

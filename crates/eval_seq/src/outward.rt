@@ -1,7 +1,9 @@
 //! The outside of an evaluation.
 ghost use Rattle.std.specs.Prelude.{◌≡◌, true};
+ghost use Rattle.laws_calls.specs.Calls.{may_come};
+ghost use Rattle.builtin_names.specs.Named.{names_in};
 ghost use Rattle.machine_steps.specs.Outward.{call_of, reply_of};
-ghost use Rattle.eval_seq.specs.Outward.{may_come, may_reply, AfterReply};
+ghost use Rattle.eval_seq.specs.Outward.{may_reply, AfterReply};
 
 use kernel_defs::Defs;
 use machine_steps::{Answer, Want};
@@ -30,10 +32,10 @@ pub trait Upcall {
     /// Whether a section is open.
     ghost is_open: { Self → Bool };
 
-    /// It may be called again after a value and a stop.
+    /// It is asked only what may come in its mode and where a section is open or not, and may be called again after a value and a stop.
     fn call(&mut self, defs: &mut Defs, want: Want) -> Answer
         requires ready { ready self.old }
-        requires comes { may_come (mode self.old) (is_open self.old) (call_of want) ≡ true }
+        requires comes { may_come (names_in (names self.old)) (mode self.old) (is_open self.old) (call_of want) ≡ true }
         ensures step { step self.old defs.old (call_of want) (reply_of result) defs.new self.new }
         ensures fits { may_reply (call_of want) (reply_of result) ≡ true }
         ensures ready { AfterReply (reply_of result) (ready self.new) }

@@ -57,9 +57,9 @@ pub(crate) fn up_start<U: Upcall>(
     symbol: Sym,
     whole: &Expr,
 ) -> Result<Start, Exit>
-    requires { Faces U.ready U.mode U.is_open (mode_of scene.now.mode) state.old.open_section _up.now }
+    requires { Faces U.ready U.names U.mode U.is_open (setting_of scene.now) state.old.open_section _up.now }
     ensures begins { (n : ℕ) → Begins (Guarded U.step U.ready U.names U.mode U.is_open) (setting_of scene.now) n (λ rest. p.symbol_rules (names_in scene.now.names.now) (Some symbol) whole.now rest) _up.now (state_of state.old) result (state_of state.new) _up.now }
-    ensures faces { IfOk result (λ _. Faces U.ready U.mode U.is_open (mode_of scene.now.mode) state.new.open_section _up.now) }
+    ensures faces { IfOk result (λ _. Faces U.ready U.names U.mode U.is_open (setting_of scene.now) state.new.open_section _up.now) }
 {
     see(scene, state, symbol);
     rules_start(scene.alloc, state.defs.ups_of(symbol), whole)
@@ -98,10 +98,10 @@ fn built_in<U: Upcall>(
     whole: &Expr,
     items: &Exprs,
 ) -> Result<Start, Exit>
-    requires faces { Faces U.ready U.mode U.is_open (mode_of scene.now.mode) state.old.open_section up.old }
+    requires faces { Faces U.ready U.names U.mode U.is_open (setting_of scene.now) state.old.open_section up.old }
     requires whole { whole.now ≡ call (t.symbol symbol) items.now }
     ensures begins { (n : ℕ) → Begins (Guarded U.step U.ready U.names U.mode U.is_open) (setting_of scene.now) n (λ rest. p.built_in (names_in scene.now.names.now) symbol items.now whole.now rest) up.old (state_of state.old) result (state_of state.new) up.new }
-    ensures faces { IfOk result (λ _. Faces U.ready U.mode U.is_open (mode_of scene.now.mode) state.new.open_section up.new) }
+    ensures faces { IfOk result (λ _. Faces U.ready U.names U.mode U.is_open (setting_of scene.now) state.new.open_section up.new) }
 {
     let Some(row) = role_of(scene.names, symbol) else {
         return Ok(Start::Given(None));
@@ -130,10 +130,10 @@ pub(crate) fn head_row_start<U: Upcall>(
     head: &Expr,
     items: &Exprs,
 ) -> Result<Start, Exit>
-    requires faces { Faces U.ready U.mode U.is_open (mode_of scene.now.mode) state.old.open_section up.old }
+    requires faces { Faces U.ready U.names U.mode U.is_open (setting_of scene.now) state.old.open_section up.old }
     requires whole { whole.now ≡ call head.now items.now }
     ensures begins { (n : ℕ) → Begins (Guarded U.step U.ready U.names U.mode U.is_open) (setting_of scene.now) n (λ rest. head_row (names_in scene.now.names.now) head.now items.now whole.now rest) up.old (state_of state.old) result (state_of state.new) up.new }
-    ensures faces { IfOk result (λ _. Faces U.ready U.mode U.is_open (mode_of scene.now.mode) state.new.open_section up.new) }
+    ensures faces { IfOk result (λ _. Faces U.ready U.names U.mode U.is_open (setting_of scene.now) state.new.open_section up.new) }
 {
     match head.node() {
         Node::Symbol(symbol) => built_in(scene, state, up, *symbol, whole, items),

@@ -8,7 +8,8 @@ ghost use Rattle.semantics.specs.Sections.{unless_access, unless_identical};
 ghost use Rattle.builtin_names.specs.Attributes.{attributes_in};
 ghost use Rattle.builtin_names.specs.Named.{names_in};
 ghost use Rattle.shared_calls.specs.View.{share_of};
-ghost use Rattle.eval_seq.specs.Outward.{is_item, Faces, Guarded};
+ghost use Rattle.laws_calls.specs.Calls.{is_item};
+ghost use Rattle.eval_seq.specs.Outward.{Faces, Guarded};
 ghost use Rattle.machine_steps.specs.Setup.{mode_of, setting_of, state_of};
 ghost use Rattle.eval_seq.specs.Walks.{or_itself, PassOf, Stepped};
 ghost use Rattle.eval_seq.specs.Sequence.{attributes_seen, Accesses, Marks, Uses};
@@ -93,10 +94,10 @@ pub(crate) fn send_access<U: Upcall>(
     up: &mut U,
     access: &Expr,
 ) -> Result<Option<Expr>, Exit>
-    requires faces { Faces U.ready U.mode U.is_open (mode_of scene.now.mode) state.old.open_section up.old }
+    requires faces { Faces U.ready U.names U.mode U.is_open (setting_of scene.now) state.old.open_section up.old }
     requires item { is_item (mode_of scene.now.mode) ≡ true }
     ensures stepped { (n : ℕ) → Stepped (Guarded U.step U.ready U.names U.mode U.is_open) (setting_of scene.now) n (λ rest. Outer (Access access.now) (unless_identical access.now rest)) up.old (state_of state.old) result (state_of state.new) up.new }
-    ensures faces { IfOk result (λ _. Faces U.ready U.mode U.is_open (mode_of scene.now.mode) state.new.open_section up.new) }
+    ensures faces { IfOk result (λ _. Faces U.ready U.names U.mode U.is_open (setting_of scene.now) state.new.open_section up.new) }
 {
     let sent = access.copy(scene.alloc)?;
     match outward(state, up, Want::Access(sent)) {
@@ -128,7 +129,7 @@ fn symbol_row<U: Upcall>(
     up: &mut U,
     symbol: Sym,
 ) -> Result<Option<Expr>, Exit>
-    requires { Faces U.ready U.mode U.is_open (mode_of scene.now.mode) state.old.open_section up.old }
+    requires { Faces U.ready U.names U.mode U.is_open (setting_of scene.now) state.old.open_section up.old }
     ensures { (n : ℕ) → PassOf (Guarded U.step U.ready U.names U.mode U.is_open) (setting_of scene.now) n (symbol_row (names_in scene.now.names.now) symbol) up.old (state_of state.old) (or_itself (Rattle.expr_tree.specs.Tree.symbol symbol) result) (state_of state.new) up.new }
 {
     if is_known(scene.names, Builtin::KernelID, symbol) {
@@ -152,7 +153,7 @@ pub(crate) fn own<U: Upcall>(
     up: &mut U,
     symbol: Sym,
 ) -> Result<Option<Expr>, Exit>
-    requires { Faces U.ready U.mode U.is_open (mode_of scene.now.mode) state.old.open_section up.old }
+    requires { Faces U.ready U.names U.mode U.is_open (setting_of scene.now) state.old.open_section up.old }
     ensures { (n : ℕ) → PassOf (Guarded U.step U.ready U.names U.mode U.is_open) (setting_of scene.now) n (symbol_pass (names_in scene.now.names.now) symbol) up.old (state_of state.old) (or_itself (Rattle.expr_tree.specs.Tree.symbol symbol) result) (state_of state.new) up.new }
 {
     if marks(scene, state, ShareKind::Variable, symbol) {

@@ -1,11 +1,12 @@
 use Rattle.std.proofs.Common.{rules, arith, ap, Some, ◌≡◌, refl, sym, take, ◌∙◌, Ok, Err}
 use Rattle.std.specs.Prelude.{unwrap_or}
 use Rattle.expr_tree.specs.Tree.{call, integer, string, symbol, normal, trees}
-use Rattle.semantics.specs.Program.{Done, Ask, Within}
+use Rattle.semantics.specs.Program.{Done, Ask, Within, Sends}
 use Rattle.builtin_names.specs.Attributes.{attributes_in}
 use Rattle.builtin_names.specs.Named.{names_in}
 use Rattle.builtin_names.proofs.Flags.{has_hold_all_complete}
 use Rattle.frames_scope.specs.Reading.{locals_in}
+use Rattle.machine_steps.specs.Outward.{request_of}
 use Rattle.evaluation_steps.proofs.Laws.{led_on, passed_here, passed_on, played_done, reached_here, evaluated_out}
 use Rattle.eval_seq.specs.Walks.{valued}
 use Rattle.eval_seq.proofs.Walking.{evaluates_deep, evaluates_err, pass_err, pass_lost, runs_ask, runs_err, runs_err_or, runs_lost, runs_led, settles_err}
@@ -14,7 +15,8 @@ use Rattle.eval_seq.proofs.Driving.{begins_on, driven_given, driven_goes, driven
 use Rattle.eval_seq.proofs.StepLaws.{stepped_err, begins_by, down_sent, down_value, down_out, down_on, element_none, element_some, ups_out, ups_value, ups_on, ups_done, ups_held, ups_free, finish_value, finish_out, finish_stays, later_listed, later_whole, settled_threads, settled_out, settled_listed, settled_on, call_value, call_out, call_on, stepped_last, stepped_here}
 use Rattle.eval_seq.proofs.SymbolLaws.{pass_err_or, pass_lost_or}
 use Rattle.eval_seq.proofs.SequenceLaws.{runs_held, runs_asked, led_asking, led_next, item_out, item_lost, items_done, head_out, items_out, values_done, values_err, splice_out, splice_on, changed_is, judged_value, judged_worn, judged_throw_out, judged_thrown, judged_out, judged_err, turn_itself, turn_same, turn_out, turn_err, turn_large, turn_worn, turn_again_out, turn_again, passed_settles, settles_err_or, evaluates_lost, normal_out, normal_on, normal_settled, pass_normal}
-use Rattle.eval_seq.proofs.Readiness.{faces_left, faces_same, machine_comes, ready_evaluates, ready_runs, ready_turned, ready_stepped, ready_follows}
+use Rattle.eval_seq.proofs.Readiness.{faces_left, faces_same, ready_evaluates, ready_runs, ready_turned, ready_stepped, ready_follows}
+use Rattle.eval_seq.proofs.Coming.{up_comes, rules_come, row_comes, move_comes, call_comes, enter_comes, leave_comes}
 use Rattle.eval_seq.proofs.Locked.{held_none, ran_inner, ran_refused, ran_not_entered, ran_stays_inside, ran_left, ran_not_left}
 use Rattle.eval_seq.proofs.evaluate.+evaluate.Goals as goal
 
@@ -416,7 +418,10 @@ pub symbol_rules-returns : goal.symbol_rules-returns
 symbol_rules-returns g t c = begins_on (c.in_ok-rules.ensures.begins c.args.room.left) c.drive.ensures
 
 pub symbol_rules-drive-requires : goal.symbol_rules-drive-requires
-symbol_rules-drive-requires g t c = let ready = c.in_ok-rules.ensures.faces in search (rules, ready)
+symbol_rules-drive-requires g t c =
+    let faces = c.in_ok-rules.ensures.faces in
+    let comes = up_comes (Some c.args.symbol) c.args.whole.now (c.in_ok-rules.ensures.begins c.args.room.left) c.requires faces in
+    search (rules, faces, comes)
 
 -- down_steps
 pub down_steps-returns-then-accesses : goal.down_steps-returns-then-accesses
@@ -451,14 +456,22 @@ down_steps-send_access-requires g t c =
     record { faces = faces_same (ap (λ k. k.open_section) c.accesses.ensures.kept) c.requires.faces; item = c.accesses.ensures.sent c.if-accesses.true }
 
 pub down_steps-drive-requires : goal.down_steps-drive-requires
-down_steps-drive-requires g t c = let ready = faces_same (ap (λ k. k.open_section) c.accesses.ensures.kept) c.requires.faces in search (rules, ready)
+down_steps-drive-requires g t c =
+    let faces = faces_same (ap (λ k. k.open_section) c.accesses.ensures.kept) c.requires.faces in
+    let begins = begins_by c.args.head.now c.args.items.now c.args.whole.now (ap (λ k. k.defs) c.accesses.ensures.kept) (rw c.as_slice.ensures at (c.in_ok-rules.ensures c.args.room.left)) in
+    let comes = rules_come c.args.state.now.defs c.args.head.now c.args.items.now c.args.whole.now begins faces faces in
+    search (rules, faces, comes)
 
 pub down_steps-head_row_start-requires : goal.down_steps-head_row_start-requires
 down_steps-head_row_start-requires g t c =
     record { faces = ready_stepped (rw c.in_default.is at c.in_ok-value.ensures) (faces_same (ap (λ k. k.open_section) c.accesses.ensures.kept) c.requires.faces); whole = c.requires.whole }
 
 pub down_steps-drive-requires-2 : goal.down_steps-drive-requires-2
-down_steps-drive-requires-2 g t c = let ready = c.in_ok-row.ensures.faces in search (rules, ready)
+down_steps-drive-requires-2 g t c =
+    let before = ready_stepped (rw c.in_default.is at c.in_ok-value.ensures) (faces_same (ap (λ k. k.open_section) c.accesses.ensures.kept) c.requires.faces) in
+    let faces = c.in_ok-row.ensures.faces in
+    let comes = row_comes c.args.head.now c.args.items.now c.args.whole.now (c.in_ok-row.ensures.begins c.args.room.left) before faces in
+    search (rules, faces, comes)
 
 -- drive
 pub drive-returns-in-Given : goal.drive-returns-in-Given
@@ -467,9 +480,15 @@ drive-returns-in-Given g t c = rw c.in-Given.is (driven_given c.in-Given.value)
 pub drive-returns-in-Machine : goal.drive-returns-in-Machine
 drive-returns-in-Machine g t c = rw c.in-Machine.is c.perform.ensures
 
+pub drive-perform-requires : goal.drive-perform-requires
+drive-perform-requires g t c =
+    let faces = c.requires.faces in
+    let comes = rw c.in-Machine.is at c.requires.comes in
+    search (rules, faces, comes)
+
 -- perform
 pub perform-steps-init : goal.perform-steps-init
-perform-steps-init g t c = record { led = λ stay. reached_here; ready = c.requires }
+perform-steps-init g t c = record { led = λ stay. reached_here; ready = c.requires.faces }
 
 pub perform-returns-in_err-next : goal.perform-returns-in_err-next
 perform-returns-in_err-next g t c = stepped_err c.from_residual.ensures.1 (driven_halts c.steps.invariant.led c.in_err-next.ensures.stepped)
@@ -489,7 +508,10 @@ pub perform-steps-smaller : goal.perform-steps-smaller
 perform-steps-smaller g t c = let b = rw c.in-Goes.is at c.in_ok-value.ensures in b.fewer _ _ c.in_ok-next.ensures.falls
 
 pub perform-follow-requires : goal.perform-follow-requires
-perform-follow-requires g t c = let ready = c.steps.invariant.ready in search (rules, ready)
+perform-follow-requires g t c =
+    let faces = c.steps.invariant.ready in
+    let comes = move_comes c.requires.comes c.steps.invariant.led c.in_ok-next.ensures.stepped c.requires.faces faces in
+    search (rules, faces, comes)
 
 -- follow
 pub follow-returns-in_err-count-in-Ask : goal.follow-returns-in_err-count-in-Ask
@@ -560,7 +582,13 @@ pub follow-returns-in-Quit : goal.follow-returns-in-Quit
 follow-returns-in-Quit g t c = rw c.in-Quit.is follows_quit
 
 pub follow-outward-requires-clause-comes : goal.follow-outward-requires-clause-comes
-follow-outward-requires-clause-comes g t c = machine_comes (g.U.Upcall.mode c.args.up.now) (g.U.Upcall.is_open c.args.up.now) c.in-Call.request
+follow-outward-requires-clause-comes g t c = call_comes (Sends (request_of c.in-Call.request)) c.requires.faces (rw c.in-Call.is at c.requires.comes)
+
+pub follow-value_locked-requires : goal.follow-value_locked-requires
+follow-value_locked-requires g t c =
+    let faces = c.requires.faces in
+    let comes = rw c.in-Section.is at c.requires.comes in
+    search (rules, faces, comes)
 
 -- value_locked
 pub value_locked-returns-in_default : goal.value_locked-returns-in_default
@@ -574,9 +602,10 @@ value_locked-returns g t c = ran_refused (sym c.is_held.ensures ∙ (c.in-Some.i
 
 pub value_locked-value_inside-requires : goal.value_locked-value_inside-requires
 value_locked-value_inside-requires g t c =
-    let faces = c.requires in
     let none' = held_none c.args.state.now.open_section c.args.locks (sym c.is_held.ensures ∙ c.in_default.is) in
-    search (rules, faces, none')
+    let faces = c.requires.faces in
+    let comes = c.requires.comes none' in
+    search (rules, faces, none', comes)
 
 -- value_inside
 pub value_inside-returns-in_err-sent : goal.value_inside-returns-in_err-sent
@@ -599,15 +628,20 @@ pub value_inside-returns : goal.value_inside-returns
 value_inside-returns g t c =
     ran_left c.value_of-value.result (sym c.if-not-is_left.ensures) c.requires.none (rw (c.in_ok-sent.ensures, c.as_slice.ensures) at c.in_ok-outward.ensures.called) c.value_of-value.ensures c.in_ok-outward-2.ensures.called
 
+pub value_inside-outward-requires-clause-comes : goal.value_inside-outward-requires-clause-comes
+value_inside-outward-requires-clause-comes g t c = enter_comes c.requires.faces c.requires.none (c.in_ok-sent.ensures ∙ c.as_slice.ensures) c.requires.comes
+
 pub value_inside-outward-requires-2-clause-ready : goal.value_inside-outward-requires-2-clause-ready
 value_inside-outward-requires-2-clause-ready g t c =
     (faces_left c.value_of-value.result (sym c.if-not-is_left.ensures) c.value_of-value.ensures
-    (record { may = c.in_ok-outward.ensures.ready; same_mode = c.in_ok-outward.ensures.mode ∙ c.requires.faces.same_mode; same_open = c.in_ok-outward.ensures.is_open })).may
+    (record { may = c.in_ok-outward.ensures.ready; same_names = ap names_in c.in_ok-outward.ensures.names ∙ c.requires.faces.same_names; same_mode = c.in_ok-outward.ensures.mode ∙ c.requires.faces.same_mode; same_open = c.in_ok-outward.ensures.is_open })).may
 
 pub value_inside-outward-requires-2-clause-comes : goal.value_inside-outward-requires-2-clause-comes
 value_inside-outward-requires-2-clause-comes g t c =
+    leave_comes c.args.locks
     (faces_left c.value_of-value.result (sym c.if-not-is_left.ensures) c.value_of-value.ensures
-    (record { may = c.in_ok-outward.ensures.ready; same_mode = c.in_ok-outward.ensures.mode ∙ c.requires.faces.same_mode; same_open = c.in_ok-outward.ensures.is_open })).same_open
+    (record { may = c.in_ok-outward.ensures.ready; same_names = ap names_in c.in_ok-outward.ensures.names ∙ c.requires.faces.same_names; same_mode = c.in_ok-outward.ensures.mode ∙ c.requires.faces.same_mode; same_open = c.in_ok-outward.ensures.is_open }))
+    c.requires.comes
 
 -- value_within
 pub value_within-returns-in_err-saved : goal.value_within-returns-in_err-saved

@@ -96,7 +96,7 @@ decreases-settle g l = 20 * l.room.left + 19
 abbrev pub invariant-settle_rest-passes : goal.invariant-settle_rest-passes
 invariant-settle_rest-passes g l = record {
   passed : Passed (Guarded g.U.Upcall.step g.U.Upcall.ready g.U.Upcall.names g.U.Upcall.mode g.U.Upcall.is_open) (setting_in l.room) l.room.left l.fn.changes l.fn.e l.fn.up (state_of l.fn.state) l.changes l.e (state_of l.state) l.up;
-  ready : Faces g.U.Upcall.ready g.U.Upcall.mode g.U.Upcall.is_open (setting_in l.room).mode l.state.open_section l.up;
+  ready : Faces g.U.Upcall.ready g.U.Upcall.names g.U.Upcall.mode g.U.Upcall.is_open (setting_in l.room) l.state.open_section l.up;
 }
 
 abbrev pub decreases-settle_rest-passes : goal.decreases-settle_rest-passes
@@ -106,7 +106,7 @@ abbrev pub invariant-elements-loop-i : goal.invariant-elements-loop-i
 invariant-elements-loop-i g l = record {
   led : Led (Guarded g.U.Upcall.step g.U.Upcall.ready g.U.Upcall.names g.U.Upcall.mode g.U.Upcall.is_open) (setting_in l.room) l.room.left (ask_items (names_under l.room) (attributes_in l.attrs) l.items) l.fn.up (state_of l.fn.state)
       (asking (names_under l.room) (attributes_in l.attrs) l.held (drop l.i l.items) (unwrap_or l.values (take l.i l.items))) (state_of l.state) l.up;
-  ready : Faces g.U.Upcall.ready g.U.Upcall.mode g.U.Upcall.is_open (setting_in l.room).mode l.state.open_section l.up;
+  ready : Faces g.U.Upcall.ready g.U.Upcall.names g.U.Upcall.mode g.U.Upcall.is_open (setting_in l.room) l.state.open_section l.up;
 }
 
 abbrev pub invariant-up_steps-loop-item : goal.invariant-up_steps-loop-item
@@ -114,14 +114,14 @@ invariant-up_steps-loop-item g l = record {
   led : (rest : Prog) → Reached (Guarded g.U.Upcall.step g.U.Upcall.ready g.U.Upcall.names g.U.Upcall.mode g.U.Upcall.is_open) (setting_in l.room) l.room.left (up_rules (names_under l.room) l.items l.whole rest) l.fn.up (state_of l.fn.state)
       (up_rules (names_under l.room) (drop l.item-index l.items) l.whole rest) (state_of l.state) l.up;
   free : l.attrs.hold_all_complete ≡ false;
-  ready : Faces g.U.Upcall.ready g.U.Upcall.mode g.U.Upcall.is_open (setting_in l.room).mode l.state.open_section l.up;
+  ready : Faces g.U.Upcall.ready g.U.Upcall.names g.U.Upcall.mode g.U.Upcall.is_open (setting_in l.room) l.state.open_section l.up;
 }
 
 abbrev pub invariant-perform-steps : goal.invariant-perform-steps
 invariant-perform-steps g l = record {
   led : (stay : Prog) → Reached (Guarded g.U.Upcall.step g.U.Upcall.ready g.U.Upcall.names g.U.Upcall.mode g.U.Upcall.is_open) (setting_in l.room) l.room.left (driven (names_under l.room) (Start.Machine l.fn.machine) stay) l.fn.up (state_of l.fn.state)
       (left (names_under l.room) l.frame stay l.answer) (state_of l.state) l.up;
-  ready : Faces g.U.Upcall.ready g.U.Upcall.mode g.U.Upcall.is_open (setting_in l.room).mode l.state.open_section l.up;
+  ready : Faces g.U.Upcall.ready g.U.Upcall.names g.U.Upcall.mode g.U.Upcall.is_open (setting_in l.room) l.state.open_section l.up;
 }
 
 abbrev pub decreases-perform-steps : goal.decreases-perform-steps
