@@ -1,0 +1,56 @@
+//! The lines of entries.
+ghost use Rattle.std.specs.Prelude.{◌≡◌, ◌++◌, IfOk, OnOk, OnErr};
+ghost use Rattle.script_text.specs.Spelling.{by_texts};
+ghost use Rattle.journal.specs.Lines.{entry_line, journal_text};
+
+use crate::event::put_event;
+use crate::parts::put_number;
+use expr_tree::Text;
+use journal::Entry;
+use name_table::Names;
+use std::alloc::{AllocError, Global};
+
+/// The line of the entry with this number, with its line feed.
+pub fn entry_line(
+    alloc: Global,
+    number: u64,
+    entry: &Entry,
+    names: &Names,
+) -> Result<Text, AllocError>
+    ensures { IfOk result (λ line. line ≡ entry_line (by_texts names.now.texts) number entry.now) }
+{
+    let mut line = Text::new(alloc);
+    put_number(&mut line, number)?;
+    line.append(" ")?;
+    put_number(&mut line, entry.kernel as u64)?;
+    line.append(" ")?;
+    put_event(alloc, &mut line, &entry.event, names)?;
+    line.append("\n")?;
+    Ok(line)
+}
+
+/// Appends the line of the entry with this number. An `Err` appends nothing.
+pub fn put_entry(
+    alloc: Global,
+    text: &mut Text,
+    number: u64,
+    entry: &Entry,
+    names: &Names,
+) -> Result<(), AllocError>
+    ensures ok { OnOk result (text.new ≡ text.old ++ entry_line (by_texts names.now.texts) number entry.now) }
+    ensures err { OnErr result (text.new ≡ text.old) }
+{
+    let line = entry_line(alloc, number, entry, names)?;
+    text.append(line.as_str())
+}
+
+/// The lines of all entries, which are numbered from 1.
+pub fn journal_text(alloc: Global, entries: &[Entry], names: &Names) -> Result<Text, AllocError>
+    ensures { IfOk result (λ text. text ≡ journal_text (by_texts names.now.texts) entries.now) }
+{
+    let mut text = Text::new(alloc);
+    for (i, entry) in entries.iter().enumerate() {
+        put_entry(alloc, &mut text, i as u64 + 1, entry, names)?;
+    }
+    Ok(text)
+}
