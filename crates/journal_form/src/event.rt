@@ -1,10 +1,9 @@
 //! The text of an event.
 ghost use Rattle.std.specs.Prelude.{◌≡◌, ◌++◌, OnOk};
-ghost use Rattle.std.specs.Fmt.{decimal};
 ghost use Rattle.script_text.specs.Spelling.{by_texts};
 ghost use Rattle.journal.specs.Lines.{event_text, loss_text, wait_text};
 
-use crate::parts::{put_full, put_ids, put_locks, put_number, put_quoted};
+use crate::parts::{put_counted, put_full, put_ids, put_locks, put_quoted};
 use expr_tree::Text;
 use journal::{Event, Loss, Wait};
 use name_table::Names;
@@ -43,14 +42,6 @@ fn put_wait(alloc: Global, text: &mut Text, wait: &Wait, names: &Names) -> Resul
             put_locks(alloc, text, locks.as_slice(), names)
         }
     }
-}
-
-/// Appends a word and the number of an item, or of kernels.
-fn put_counted(text: &mut Text, word: &str, number: u64) -> Result<(), AllocError>
-    ensures { OnOk result (text.new ≡ text.old ++ word.now ++ decimal number) }
-{
-    text.append(word)?;
-    put_number(text, number)
 }
 
 /// Appends the text of an event.

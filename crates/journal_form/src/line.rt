@@ -1,12 +1,13 @@
 //! The lines of entries.
-ghost use Rattle.std.specs.Prelude.{◌≡◌, ◌++◌, IfOk, OnOk, OnErr};
+ghost use Rattle.std.specs.Prelude.{◌≡◌, ◌++◌, map, IfOk, OnOk, OnErr};
 ghost use Rattle.script_text.specs.Spelling.{by_texts};
 ghost use Rattle.journal.specs.Lines.{entry_line, journal_text};
 
 use crate::event::put_event;
-use crate::parts::put_number;
+use crate::parts::{put_counted, put_number};
 use expr_tree::Text;
 use journal::Entry;
+use master_core::Journal;
 use name_table::Names;
 use std::alloc::{AllocError, Global};
 
@@ -21,8 +22,7 @@ pub fn entry_line(
 {
     let mut line = Text::new(alloc);
     put_number(&mut line, number)?;
-    line.append(" ")?;
-    put_number(&mut line, entry.kernel as u64)?;
+    put_counted(&mut line, " ", entry.kernel as u64)?;
     line.append(" ")?;
     put_event(alloc, &mut line, &entry.event, names)?;
     line.append("\n")?;
@@ -44,13 +44,28 @@ pub fn put_entry(
     text.append(line.as_str())
 }
 
-/// The lines of all entries, which are numbered from 1.
-pub fn journal_text(alloc: Global, entries: &[Entry], names: &Names) -> Result<Text, AllocError>
+/// The lines of entries, which are numbered from 1.
+pub fn entries_text(alloc: Global, entries: &[Entry], names: &Names) -> Result<Text, AllocError>
     ensures { IfOk result (λ text. text ≡ journal_text (by_texts names.now.texts) entries.now) }
 {
     let mut text = Text::new(alloc);
     for (i, entry) in entries.iter().enumerate() {
         put_entry(alloc, &mut text, i as u64 + 1, entry, names)?;
+    }
+    Ok(text)
+}
+
+/// The lines of the entries that a book keeps.
+#[tactic(auto, using(crate::proofs::Lines::lines_end))]
+pub fn journal_text(alloc: Global, journal: &Journal, names: &Names) -> Result<Text, AllocError>
+    ensures { IfOk result (λ text. text ≡ journal_text (by_texts names.now.texts) (map (λ p. p.entry) journal.now.posted)) }
+{
+    let mut text = Text::new(alloc);
+    for at in 0..journal.len() {
+        match journal.get(at) {
+            Some(entry) => put_entry(alloc, &mut text, at as u64 + 1, entry, names)?,
+            None => {}
+        }
     }
     Ok(text)
 }

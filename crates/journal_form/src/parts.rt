@@ -51,13 +51,20 @@ pub(crate) fn put_number(text: &mut Text, number: u64) -> Result<(), AllocError>
     text.append(Buffer::new().format(number))
 }
 
+/// Appends a number behind what stands in front of it.
+pub(crate) fn put_counted(text: &mut Text, front: &str, number: u64) -> Result<(), AllocError>
+    ensures { OnOk result (text.new ≡ text.old ++ front.now ++ decimal number) }
+{
+    text.append(front)?;
+    put_number(text, number)
+}
+
 /// Appends ids, each with a space in front.
 pub(crate) fn put_ids(text: &mut Text, ids: &[u64]) -> Result<(), AllocError>
     ensures { OnOk result (text.new ≡ text.old ++ ids_text ids.now) }
 {
     for id in ids {
-        text.append(" ")?;
-        put_number(text, *id)?;
+        put_counted(text, " ", *id)?;
     }
     Ok(())
 }
