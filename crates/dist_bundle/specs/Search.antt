@@ -1,4 +1,4 @@
--- The search for the symbols of a closure.
+-- The search for the symbols of a closure, step by step. No public contract cites these words.
 --     Search                the symbols found, in order; those of them that are not followed yet; whether a name of the table was followed
 --     found                 the set of what is found
 --     added, added_all      a symbol, or several, found

@@ -64,7 +64,8 @@ fn ended(
 }
 
 impl Reach {
-    /// The symbols that an item with these takes with it. The time depends on what is found, and not on all definitions.
+    /// The symbols that an item with these takes with it. The time depends on what is found and on the shared symbols, and not on all
+    /// definitions.
     pub fn closure(
         alloc: Global,
         names: &Vocabulary,

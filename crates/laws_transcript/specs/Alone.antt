@@ -21,7 +21,7 @@ abbrev pub no_kernels : List Text → ℕ → Setup
 no_kernels texts steps = setup_of (opening texts 0 steps Recover.Retry)
 
 module _ (texts : List Text) (steps : ℕ) where
-  -- it has a value: no name that is not built stands in it, and its evaluation needs no call
+  -- something is shown for it: it is too deep, or no name that is not built stands in it and its evaluation needs no call
   abbrev pub IsBuilt : Definitions → Tree → Type 0
   IsBuilt d e = is_some (ran (by_texts texts) (names_of texts) (place_in texts) steps d e).value ≡ true
 

@@ -50,16 +50,12 @@ pub finest_chunk : (m : Method) (n k i : ℕ) → m ≡ Finest → i < length (l
 finest_chunk m n k i e w =
     subst (λ x. i < length (lengths x n k) → chunk_at (lengths x n k) i ≡ Some (i, i + 1)) (sym e) (λ w. single n i (subst (λ l. i < l) (length-replicate n 1) w)) w
 
--- ---- even chunks
+pub finest_within : (m : Method) (n k i : ℕ) → m ≡ Finest → i < length (lengths m n k) → i + 1 ≤ n
+finest_within m n k i e w =
+    let some : i < n = subst (λ l. i < l) (ap (λ x. length (lengths x n k)) e ∙ length-replicate n 1) w in
+    omega (arith, some)
 
-count_even : (n c : ℕ) → length (even_lengths n c) ≡ c
-count_even n zero = refl
-count_even n (suc c) =
-    let small = mod-lt n {m = suc c} (omega arith) in
-    length-append (replicate (n % suc c) (n / suc c + 1)) (replicate (suc c - n % suc c) (n / suc c))
-    ∙ ap (λ m. m + length (replicate (suc c - n % suc c) (n / suc c))) (length-replicate (n % suc c) (n / suc c + 1))
-    ∙ ap (λ m. n % suc c + m) (length-replicate (suc c - n % suc c) (n / suc c))
-    ∙ omega (arith, small)
+-- ---- even chunks
 
 -- a longer chunk stands in front, and ends within the list
 pub longer_chunk : (n c i : ℕ) → i < c → i < n % c → chunk_at (even_lengths n c) i ≡ Some (i * (n / c + 1), i * (n / c + 1) + (n / c + 1))
@@ -85,7 +81,7 @@ shorter_chunk n (suc c) i h k = go (n / suc c) (n % suc c) h k
         ∙ all_equal (suc c - r) q (i - r) (0 + r * (q + 1)) (omega (arith, h, k))
         ∙ ap (λ m. Some (m, m + q)) (moved (i - r) r q ∙ ap (λ m. m * q + r) (omega (arith, k)))
 
-within_longer : (n c i : ℕ) → 1 ≤ c → i < n % c → i * (n / c + 1) + (n / c + 1) ≤ n
+pub within_longer : (n c i : ℕ) → i < c → i < n % c → i * (n / c + 1) + (n / c + 1) ≤ n
 within_longer n c i h k =
     let small = mod-lt n {m = c} (omega (arith, h)) in
     let more = mul-le-mul_right {m = suc i} {n = n % c} (n / c + 1) (omega (arith, k)) in
@@ -95,13 +91,16 @@ within_longer n c i h k =
     go : (q r : ℕ) → suc i * (q + 1) ≤ r * (q + 1) → r * q ≤ c * q → c * q + r ≡ n → i * (q + 1) + (q + 1) ≤ n
     go q r more most whole = grind (arith, more, most, whole)
 
-within_shorter : (n c i : ℕ) → i < c → i * (n / c) + n % c + n / c ≤ n
+pub within_shorter : (n c i : ℕ) → i < c → i * (n / c) + n % c + n / c ≤ n
 within_shorter n c i h =
     let most = mul-le-mul_right {m = suc i} {n = c} (n / c) (omega (arith, h)) in
     go (n / c) (n % c) most (div-add-mod n c)
   where
     go : (q r : ℕ) → suc i * q ≤ c * q → c * q + r ≡ n → i * q + r + q ≤ n
     go q r most whole = grind (arith, most, whole)
+
+pub none_empty : (n c : ℕ) → 1 ≤ c → c ≤ n → 1 ≤ n / c
+none_empty n c h k = le-div 1 n c h (grind (arith, k))
 
 -- ---- chunks of so many
 
@@ -124,25 +123,21 @@ count_whole n k h e = let rest = count_of_rest (n % k) e in let all = count_with
 count_broken : (n k : ℕ) → 1 ≤ k → 1 ≤ n % k → n / k + 1 ≡ length (lengths_per n k)
 count_broken n k h e = let rest = count_of_some (n % k) e in let all = count_with n k h in omega (arith, rest, all)
 
--- with a rest there are fewer whole chunks than elements
-fewer_whole : (n k : ℕ) → 1 ≤ k → 1 ≤ n % k → n / k + 1 ≤ n
-fewer_whole n k h e =
-    let least = mul-le-mul_right {m = 1} {n = k} (n / k) h in
-    go (n / k) (n % k) least e (div-add-mod n k)
+-- each begins within the list
+pub begins_within : (n k i : ℕ) → 1 ≤ k → i < length (lengths_per n k) → i * k < n
+begins_within n k i h w = go (n % k) refl
   where
-    go : (q r : ℕ) → 1 * q ≤ k * q → 1 ≤ r → k * q + r ≡ n → q + 1 ≤ n
-    go q r least some whole = grind (arith, least, some, whole)
+    below : (q r i : ℕ) → i ≤ q → 1 ≤ r → k * q + r ≡ n → i * k < n
+    below q r i l some whole = let most = mul-le-mul_right {m = i} {n = q} k l in grind (arith, most, some, whole)
 
--- which chunk it is
-pub within_count : (n k i : ℕ) → 1 ≤ k → i < length (lengths_per n k) → i * k ≤ n
-within_count n k i h w = go (n % k) refl
-  where
-    below : (q r i : ℕ) → i ≤ q → k * q + r ≡ n → i * k ≤ n
-    below q r i l whole = let most = mul-le-mul_right {m = i} {n = q} k l in grind (arith, most, whole)
+    before : (q i : ℕ) → suc i ≤ q → k * q + 0 ≡ n → i * k < n
+    before q i l whole = let most = mul-le-mul_right {m = suc i} {n = q} k l in grind (arith, most, h, whole)
 
-    go : (r : ℕ) → n % k ≡ r → i * k ≤ n
-    go zero e = let all = count_whole n k h e in below (n / k) (n % k) i (omega (arith, w, all)) (div-add-mod n k)
-    go (suc r) e = let all = count_broken n k h (omega (arith, e)) in below (n / k) (n % k) i (omega (arith, w, all)) (div-add-mod n k)
+    go : (r : ℕ) → n % k ≡ r → i * k < n
+    go zero e = let all = count_whole n k h e in before (n / k) i (omega (arith, w, all)) (ap (λ r. k * (n / k) + r) (sym e) ∙ div-add-mod n k)
+    go (suc r) e =
+        let all = count_broken n k h (omega (arith, e)) in
+        below (n / k) (n % k) i (omega (arith, w, all)) (omega (arith, e)) (div-add-mod n k)
 
 pub whole_chunk : (n k i : ℕ) → 1 ≤ k → i * k + k ≤ n → chunk_at (lengths_per n k) i ≡ Some (i * k, i * k + k)
 whole_chunk n zero i h w = absurd (omega (arith, h))

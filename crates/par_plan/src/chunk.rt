@@ -1,7 +1,7 @@
 ghost use Rattle.std.specs.Prelude.{◌≡◌, ◌≤◌, ◌<◌, true, length, Some};
 ghost use Rattle.journal.specs.Cuts as cuts;
 ghost use Rattle.laws_journal.specs.Laws.{is_usable};
-ghost use Rattle.par_plan.specs.Plan.{method_of, places_of, chunk_at};
+ghost use Rattle.par_plan.specs.Plan.{method_of, places_of, chunk_at, IsWithin};
 
 use crate::method::Method;
 
@@ -14,7 +14,8 @@ pub struct Chunk {
 
 /// How many chunks the coarsest cut makes.
 fn coarsest_count(elements: u64, kernels: u32) -> u64
-    ensures { result ≡ cuts.chunks elements kernels }
+    ensures count { result ≡ cuts.chunks elements kernels }
+    ensures few { result ≤ elements }
 {
     u64::from(kernels).max(1).min(elements)
 }
@@ -46,8 +47,10 @@ pub fn cut_count(elements: u64, method: Method, kernels: u32) -> u64
 
 /// A chunk of an even cut: those in front are one longer where the elements do not come out even.
 fn even_chunk(elements: u64, count: u64, index: u64) -> Chunk
-    requires { index < count }
-    ensures { chunk_at (cuts.even_lengths elements count) index ≡ Some (places_of result) }
+    requires within { index < count }
+    requires some_each { count ≤ elements }
+    ensures places { chunk_at (cuts.even_lengths elements count) index ≡ Some (places_of result) }
+    ensures bounds { IsWithin elements result }
 {
     let size = elements / count;
     let longer = elements % count;
@@ -70,7 +73,8 @@ fn even_chunk(elements: u64, count: u64, index: u64) -> Chunk
 fn chunk_of_size(elements: u64, size: u64, index: u64) -> Chunk
     requires size { 1 ≤ size }
     requires within { index < length (cuts.lengths_per elements size) }
-    ensures { chunk_at (cuts.lengths_per elements size) index ≡ Some (places_of result) }
+    ensures places { chunk_at (cuts.lengths_per elements size) index ≡ Some (places_of result) }
+    ensures bounds { IsWithin elements result }
 {
     let from = index * size;
     let to = if elements - from < size {
@@ -85,7 +89,8 @@ fn chunk_of_size(elements: u64, size: u64, index: u64) -> Chunk
 pub fn cut(elements: u64, method: Method, kernels: u32, index: u64) -> Chunk
     requires usable { is_usable (method_of method) ≡ true }
     requires within { index < length (cuts.lengths (method_of method) elements kernels) }
-    ensures { chunk_at (cuts.lengths (method_of method) elements kernels) index ≡ Some (places_of result) }
+    ensures places { chunk_at (cuts.lengths (method_of method) elements kernels) index ≡ Some (places_of result) }
+    ensures bounds { IsWithin elements result }
 {
     match method {
         Method::Coarsest => even_chunk(elements, coarsest_count(elements, kernels), index),

@@ -3,9 +3,11 @@
 #![tactic(auto)]
 
 mod chunk;
+mod law;
 mod method;
 #[cfg(test)]
 mod tests;
 
 pub use chunk::{Chunk, cut, cut_count};
+pub use law::chunks_are_between;
 pub use method::Method;

@@ -1,4 +1,4 @@
-/// The ways of cutting, as the option `Method` of a parallel form names them.
+/// The ways of cutting that the option `Method` of a parallel form can ask for: `CoarsestGrained`, `FinestGrained`, `ItemsPerEvaluation`.
 #[derive(Clone, Copy, Debug)]
 pub enum Method {
     /// One chunk for each kernel that lives, at least one.

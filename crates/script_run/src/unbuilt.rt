@@ -10,7 +10,7 @@ use expr_tree::{Expr, Node, Sym};
 use row_kinds::{Kind, kind_of};
 use semantics::Builtin;
 
-/// Whether the rows of a kind are not built, but for Throw and Catch.
+/// Whether the rows of a kind go outward, or ask which kernel evaluates them.
 fn is_unbuilt_kind(kind: Kind) -> bool
     ensures { result ≡ is_unbuilt_kind kind }
 {

@@ -45,7 +45,7 @@ fn is_within_depth(e: &Expr)
     let _ = e.depth();
 }
 
-/// What an expression that is evaluated alone shows: its value, `$Aborted` where it stops, what it throws. Where mode or kernel mattered
+/// What an expression that is evaluated alone shows: its value, `$Aborted` where it stops, `Hold[Throw[v]]` where it throws. Where mode or kernel mattered
 /// or a call was needed, though no name of a row that does so stands in the cell, there is no answer but that of want of memory.
 fn evaluated(
     alloc: Global,
